@@ -1,0 +1,57 @@
+-- 01, "Choosing one floorplan".
+use mathlib.Core.Path.{_≡_}
+use mathlib.Core.List.{List, [], _∷_, _++_}
+use Prim.Native.Nat.{ℕ, zero, suc, _+_, _*_, _≤_, max}
+use Rattle.rules.specs.declared.Corner.{Corner}
+use Rattle.rules.specs.declared.Shape.{Shape}
+use Rattle.rules.specs.declared.Rectangle.{Rectangle}
+use Rattle.rules.specs.declared.Direction.{Direction}
+use Rattle.rules.specs.declared.Direction.the-variants.{Vertical, Horizontal}
+use Rattle.rules.specs.Chip.{corner, shape}
+use Rattle.rules.specs.Tree.{Tree, leaf, cut, position}
+use Rattle.rules.specs.Placement.{Placement, area}
+use Rattle.rules.specs.Slot.{Stores, CornerOn}
+
+-- "take the shape of least area w·h; of equals the narrowest"
+pub record Chosen (W : ℕ) (bytes : ℕ → ℕ) (s : Shape) : Type 0 where
+  pub stored : Stores W bytes s
+  pub smallest : (o : Shape) → Stores W bytes o → area s ≤ area o
+  pub narrowest : (o : Shape) → Stores W bytes o → area o ≡ area s → s .w .0 ≤ o .w .0
+
+-- the right child's corner: "at (x+w1, y)" under a vertical cut, "at (x, y+h1)" under a horizontal one
+abbrev pub beside : Direction → Corner → Shape → Corner
+beside Vertical c s = corner (c .x .0 + s .w .0) (c .y .0)
+beside Horizontal c s = corner (c .x .0) (c .y .0 + s .h .0)
+
+-- the box of two shapes so placed: "w1+w2 = w and the greater height h", "h1+h2 = h and the greater width w"
+abbrev pub pairing : Direction → Shape → Shape → Shape
+pairing Vertical s o = shape (s .w .0 + o .w .0) (max (s .h .0) (o .h .0))
+pairing Horizontal s o = shape (max (s .w .0) (o .w .0)) (s .h .0 + o .h .0)
+
+-- A shape of the left list at a corner and one of the right list beside it have this box. Beyond the chip's last column or
+-- row there is no corner, and so no pair.
+pub record Pair (W H : ℕ) (d : Direction) (lefts rights : Corner → ℕ → ℕ) (c : Corner) (s o whole : Shape) : Type 0 where
+  pub left : Stores W (lefts c) s
+  pub corner : CornerOn W H (beside d c s)
+  pub right : Stores W (rights (beside d c s)) o
+  pub box : pairing d s o ≡ whole
+
+-- "takes the first shape of the left list there for which the right list .. has" one; no other right shape is as narrow
+pub record Taken (W H : ℕ) (d : Direction) (lefts rights : Corner → ℕ → ℕ) (c : Corner) (whole s o : Shape) : Type 0 where
+  pub pair : Pair W H d lefts rights c s o whole
+  pub first : (s' o' : Shape) → Pair W H d lefts rights c s' o' whole → s .w .0 ≤ s' .w .0
+  pub only : (o' : Shape) → Pair W H d lefts rights c s o' whole → o .w .0 ≤ o' .w .0
+
+-- Going down from a shape at a corner, over the nodes' slots, gives these rectangles. "A leaf's rectangle is its shape at its
+-- corner", and it has to suit.
+unfoldable pub Down : ℕ → ℕ → (ℕ → Rectangle → Type 0) → (ℕ → Corner → ℕ → ℕ) → Tree → Corner → Shape → Placement → Type 0
+Down W H Suits slots (leaf t k) c s p = Suits k (p k) × (p k ≡ record { corner = c; shape = s })
+Down W H Suits slots (cut t d l r) c whole p =
+    (s : Shape) × (o : Shape) × Taken W H d (slots (position l)) (slots (position r)) c whole s o
+    × Down W H Suits slots l c s p × Down W H Suits slots r (beside d c s) o p
+
+-- "Rows out: four bytes x, y, w, h for each module, in module order"
+unfoldable pub rowsOut : ℕ → Placement → List ℕ
+rowsOut zero p = []
+rowsOut (suc k) p = rowsOut k p
+    ++ (p k .corner .x .0 ∷ p k .corner .y .0 ∷ p k .shape .w .0 ∷ p k .shape .h .0 ∷ [])

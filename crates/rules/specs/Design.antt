@@ -1,0 +1,113 @@
+-- The design as a value: 01's limits, the tree of its tokens, and its tests in file order.
+use mathlib.Core.Path.{_≡_}
+use mathlib.Core.Bool.{Bool, true, false, not, _&&_}
+use mathlib.Core.List.{List, [], _∷_}
+use Prim.Native.Nat.{ℕ, suc, _+_, _-_, _*_, _<_}
+use lib.Dec.{leb, eqb}
+use lib.ListN.{getD}
+use Rattle.rules.specs.declared.Need.{Need}
+use Rattle.rules.specs.declared.Rectangle.{Rectangle}
+use Rattle.rules.specs.declared.Design.{Design}
+use Rattle.rules.specs.declared.Token.{Token}
+use Rattle.rules.specs.declared.Refusal.the-variants.{BreaksLimits, BadToken, NotOneThing}
+use Rattle.rules.specs.declared.Reply.{Reply}
+use Rattle.rules.specs.declared.Reply.the-variants.{Done, Refused}
+use Rattle.rules.specs.Search.{all}
+use Rattle.rules.specs.Chip.{Chip, columnOf, Suits}
+use Rattle.rules.specs.Tree.{Tree, Standing, refused, things, tokenOf, standing, last}
+
+-- "Limits: W 1..64, H 1..64, B 1..H, kinds 0..2, modules m 1..16, each of a need's three numbers 0..65,535, not all three
+-- zero." The numbers are said here alone, and no law names them.
+abbrev pub mostColumns : ℕ
+mostColumns = 64
+
+abbrev pub mostRows : ℕ
+mostRows = 64
+
+abbrev pub lastKind : ℕ
+lastKind = 2
+
+abbrev pub mostModules : ℕ
+mostModules = 16
+
+abbrev pub mostNumber : ℕ
+mostNumber = 65535
+
+-- What stands in a design's places. Those beyond W, m and 2m-1 are ignored.
+abbrev pub kindAt : Design → ℕ → ℕ
+kindAt d x = getD (d .kinds) x 0
+
+abbrev pub noNeed : Need
+noNeed = record { clbs = 0; rams = 0; multipliers = 0 }
+
+abbrev pub needAt : Design → ℕ → Need
+needAt d k = getD (d .needs) k noNeed
+
+abbrev pub tokenAt : Design → ℕ → Token
+tokenAt d t = tokenOf mostModules (getD (d .tokens) t 0)
+
+-- "2m-1 tokens", one for each node
+abbrev pub nodes : Design → ℕ
+nodes d = 2 * d .modules - 1
+
+unfoldable pub inRange : ℕ → ℕ → ℕ → Bool
+inRange low most n = leb low n && leb n most
+
+unfoldable pub lawfulNeed : Need → Bool
+lawfulNeed n =
+    leb (n .clbs) mostNumber && leb (n .rams) mostNumber && leb (n .multipliers) mostNumber
+    && not (eqb (n .clbs) 0 && eqb (n .rams) 0 && eqb (n .multipliers) 0)
+
+unfoldable pub withinLimits : Design → Bool
+withinLimits d =
+    inRange 1 mostColumns (d .width .0) && inRange 1 mostRows (d .height .0) && inRange 1 (d .height .0) (d .block .0)
+    && all (d .width .0) (λ x. leb (kindAt d x) lastKind)
+    && inRange 1 mostModules (d .modules) && all (d .modules) (λ k. lawfulNeed (needAt d k))
+
+-- The chip, the suiting and the tree of a design.
+unfoldable pub chipOf : Design → Chip
+chipOf d = record {
+  width = d .width .0;
+  height = d .height .0;
+  column = λ x. columnOf (d .height .0) (d .block .0) (kindAt d x);
+}
+
+abbrev pub SuitsOf : Design → ℕ → Rectangle → Type 0
+SuitsOf d k r = Suits (chipOf d) (needAt d k) r
+
+-- what stands after the first n tokens; node t is what then stands last; "the last is the root"
+abbrev pub standingOf : Design → ℕ → Standing
+standingOf d n = standing (d .modules) (tokenAt d) n
+
+abbrev pub nodeAt : Design → ℕ → Tree
+nodeAt d t = last (standingOf d (suc t))
+
+abbrev pub root : Design → Tree
+root d = last (standingOf d (nodes d))
+
+-- 5: "token over m+1, module repeated, or cut with fewer than two things standing"; 6: "tokens used up and not exactly one
+-- thing stands"
+abbrev pub treeTest : Standing → Reply
+treeTest refused = Refused (BadToken 0)
+treeTest (things []) = Refused (NotOneThing 0)
+treeTest (things (t ∷ [])) = Done
+treeTest (things (t ∷ (u ∷ ts))) = Refused (NotOneThing 0)
+
+-- "A design handed over as a value is tested first by the same limits and tree rules, in file order, with 4, 5 or 6 at
+-- position 0."
+unfoldable pub valueTest : Design → Reply
+valueTest d = elim (withinLimits d) [ true ↦ treeTest (standingOf d (nodes d)) | false ↦ Refused (BreaksLimits 0) ]
+
+-- a lawful design
+abbrev pub LawfulDesign : Design → Type 0
+LawfulDesign d = valueTest d ≡ Done
+
+-- "Places beyond W, m and 2m-1 in it are ignored, also when two designs are called the same."
+pub record SameDesign (d e : Design) : Type 0 where
+  pub width : d .width ≡ e .width
+  pub height : d .height ≡ e .height
+  pub block : d .block ≡ e .block
+  pub kinds : (x : ℕ) → x < d .width .0 → kindAt d x ≡ kindAt e x
+  pub modules : d .modules ≡ e .modules
+  pub needs : (k : ℕ) → k < d .modules → needAt d k ≡ needAt e k
+  pub tokens : (t : ℕ) → t < nodes d → getD (d .tokens) t 0 ≡ getD (e .tokens) t 0

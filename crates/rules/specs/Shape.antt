@@ -1,0 +1,42 @@
+-- 01, "Lists": shapes, dominance, and which shapes are listed.
+use mathlib.Core.Path.{_≡_}
+use Prim.Native.Nat.{ℕ, _-_, _≤_, min, max}
+use Rattle.rules.specs.declared.Corner.{Corner}
+use Rattle.rules.specs.declared.Shape.{Shape}
+use Rattle.rules.specs.declared.Rectangle.{Rectangle}
+use Rattle.rules.specs.Chip.{OnChip, rectangle, left, right, bottom, top}
+use Rattle.rules.specs.Tree.{Tree, leaf, cut}
+use Rattle.rules.specs.Placement.{begins, ends}
+
+-- The bounding box of two rectangles; document 000's bounding rectangle.
+abbrev pub bounding : Rectangle → Rectangle → Rectangle
+bounding p q =
+    let x = min (left p) (left q) in let y = min (bottom p) (bottom q) in
+    rectangle x y (max (right p) (right q) - x) (max (top p) (top q) - y)
+
+-- "For a leaf, the shapes at corner (x, y) are the (w, h) whose rectangle from (x, y) is on the chip and suits the need."
+-- Document 000, definition 2: the realization set of a module.
+-- "For a cut they are the bounding boxes, with lower left corner exactly (x, y), of a shape of each child anywhere on the
+-- chip, the two in the cut's order." Document 000's definition for tree nodes.
+unfoldable pub Realizes : ℕ → ℕ → (ℕ → Rectangle → Type 0) → Tree → Rectangle → Type 0
+Realizes W H Suits (leaf t k) r = OnChip W H r × Suits k r
+Realizes W H Suits (cut t d l r) b =
+    (p : Rectangle) × (q : Rectangle) × Realizes W H Suits l p × Realizes W H Suits r q × (ends d p ≤ begins d q) × (b ≡ bounding p q)
+
+abbrev pub ShapeAt : ℕ → ℕ → (ℕ → Rectangle → Type 0) → Tree → Corner → Shape → Type 0
+ShapeAt W H Suits t c s = Realizes W H Suits t (record { corner = c; shape = s })
+
+-- "A shape dominates another at the same corner if it is no wider and no higher." Document 000, definition 3.
+pub record Dominates (s o : Shape) : Type 0 where
+  pub wide : s .w .0 ≤ o .w .0
+  pub high : s .h .0 ≤ o .h .0
+
+-- of some shapes at one corner, one "that no other dominates"
+pub record Undominated (P : Shape → Type 0) (s : Shape) : Type 0 where
+  pub is : P s
+  pub alone : (o : Shape) → P o → Dominates o s → o ≡ s
+
+-- "The list holds exactly the shapes that no other dominates." Document 000, definition 4, and the same for tree nodes: the
+-- irreducible realization list.
+abbrev pub Listed : ℕ → ℕ → (ℕ → Rectangle → Type 0) → Tree → Corner → Shape → Type 0
+Listed W H Suits t c = Undominated (ShapeAt W H Suits t c)
