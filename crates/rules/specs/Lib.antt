@@ -11,3 +11,4 @@ pub mod Edit
 pub mod Bytes
 pub mod Check
 pub mod Reply
+pub mod Test

@@ -1,0 +1,49 @@
+-- A larger rectangle on the chip suits if a part of it does, since it covers every block that the part covers; and the test of a
+-- room decides what 01 says of a rectangle. Assumes nothing.
+use mathlib.Core.Logic.{_↔_}
+use mathlib.Core.Bool.{So}
+use Prim.Native.Nat.{ℕ, _≤_}
+use native.Mathlib.Omega.{arith}
+use Rattle.rules.specs.declared.Need.{Need}
+use Rattle.rules.specs.declared.Rectangle.{Rectangle}
+use Rattle.rules.specs.Chip.{Chip, OnChip, Suits, holds, heldBetween, coversBlock, left, right, bottom, top}
+use Rattle.rules.specs.Test.{suitsRoom}
+use Rattle.rules.proofs.Searching.{test-iffs, count-le, total-le}
+use Rattle.rules.proofs.Rooms.{Growing}
+
+held-grows : (C : Chip) (k a c b d a' c' b' d' : ℕ) → a' ≤ a → c' ≤ c → b ≤ b' → d ≤ d' → heldBetween C k a c b d ≤ heldBetween C k a' c' b' d'
+unfolding heldBetween coversBlock
+held-grows C k a c b d a' c' b' d' p q r s =
+    total-le (C .width) _ _ _ _
+    (λ x t. let h = simp test-iffs at t in simp test-iffs ((omega arith, omega arith), h .1))
+    (λ x. count-le (C .column x .many) _ _ (λ j t. let h = simp test-iffs at t in simp test-iffs (omega arith)))
+
+pub suits-growing : (C : Chip) (n : Need) → Growing (C .width) (C .height) (suitsRoom C n)
+unfolding suitsRoom
+suits-growing C n = record {
+  grow = λ a c b d a' c' b' d' t p q r s u v.
+      let h = simp test-iffs at t in
+      let le : (k : ℕ) → heldBetween C k a c b d ≤ heldBetween C k a' c' b' d' = λ k. held-grows C k a c b d a' c' b' d' p q r s in
+      simp test-iffs (omega (arith, le 0, le 1, le 2));
+  solid = λ a c b d t. let h = simp test-iffs at t in omega arith;
+}
+
+-- the test of a room's four sides is 01's rule for a rectangle
+pub suits-decided : (C : Chip) (n : Need) (r : Rectangle)
+    → (OnChip (C .width) (C .height) r × Suits C n r) ↔ So (suitsRoom C n (left r) (bottom r) (right r) (top r))
+unfolding suitsRoom holds
+suits-decided C n r = (
+  λ z. let (o, s) = z in simp test-iffs (omega (arith, o .wide, o .high, o .columns, o .rows, s .clbs, s .rams, s .multipliers)),
+  λ t. let h = simp test-iffs at t in
+      (record { wide = omega arith; high = omega arith; columns = omega arith; rows = omega arith },
+      record { clbs = omega arith; rams = omega arith; multipliers = omega arith }),
+)
+
+-- "a larger rectangle on the chip suits if a part of it does"
+pub larger-suits : (C : Chip) (n : Need) (part whole : Rectangle) → OnChip (C .width) (C .height) part → Suits C n part
+    → OnChip (C .width) (C .height) whole → left whole ≤ left part → bottom whole ≤ bottom part → right part ≤ right whole → top part ≤ top whole
+    → Suits C n whole
+larger-suits C n part whole o s o' p q r u =
+    suits-decided C n whole .1
+    (suits-growing C n .grow (left part) (bottom part) (right part) (top part) (left whole) (bottom whole) (right whole) (top whole)
+    (suits-decided C n part .0 (o, s)) p q r u (o' .columns) (o' .rows)) .1

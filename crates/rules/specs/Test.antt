@@ -1,0 +1,72 @@
+-- Tests that compute, beside the rules that they decide. None of them has to be believed: proofs/ shows of each which rule it
+-- decides. A room is given by its four sides, left, bottom, right and top; its test is a Bool.
+use mathlib.Core.Bool.{Bool, true, false, _&&_}
+use Prim.Native.Nat.{ℕ, zero, suc, _+_, _-_, _*_, max}
+use lib.Dec.{leb, ltb, eqb}
+use Rattle.rules.specs.declared.Direction.{Direction}
+use Rattle.rules.specs.declared.Direction.the-variants.{Vertical, Horizontal}
+use Rattle.rules.specs.declared.Rectangle.{Rectangle}
+use Rattle.rules.specs.declared.Need.{Need}
+use Rattle.rules.specs.Search.{any, least}
+use Rattle.rules.specs.Chip.{Chip, rectangle, heldBetween}
+use Rattle.rules.specs.Tree.{Tree, leaf, cut, has, position}
+use Rattle.rules.specs.Placement.{Placement}
+
+abbrev pub Test : Type 0
+Test = ℕ → ℕ → ℕ → ℕ → Bool
+
+-- the bytes of a node's slots: column, row, place in the slot
+abbrev pub Grid : Type 0
+Grid = ℕ → ℕ → ℕ → ℕ
+
+-- The two directions. A statement on rooms is turned by swapping columns and rows; of a column and a row, `across` is the one
+-- that counts across the cut.
+abbrev pub turn {ℓ} : {A : Type ℓ} → Direction → (ℕ → ℕ → ℕ → ℕ → A) → ℕ → ℕ → ℕ → ℕ → A
+turn Vertical F a c b d = F a c b d
+turn Horizontal F a c b d = F c a d b
+
+abbrev pub across : Direction → ℕ → ℕ → ℕ
+across Vertical m n = m
+across Horizontal m n = n
+
+abbrev pub room : ℕ → ℕ → ℕ → ℕ → Rectangle
+room a c b d = rectangle a c (b - a) (d - c)
+
+-- the room is on the chip and suits the need
+unfoldable pub suitsRoom : Chip → Need → Test
+suitsRoom C n a c b d =
+    ltb a b && ltb c d && leb b (C .width) && leb d (C .height)
+    && leb (n .clbs) (heldBetween C 0 a c b d) && leb (n .rams) (heldBetween C 1 a c b d)
+    && leb (n .multipliers) (heldBetween C 2 a c b d)
+
+-- a line parts the room into one that passes left and one that passes right
+unfoldable pub parted : Test → Test → Test
+parted F G a c b d = any b (λ m. F a c m d && G m c b d)
+
+-- the room has place for the tree
+unfoldable pub fits : (ℕ → Test) → Tree → Test
+fits F (leaf t k) = F k
+fits F (cut t d l r) = turn d (parted (turn d (fits F l)) (turn d (fits F r)))
+
+-- the least top side at which a room with these other sides passes, or H + 1
+unfoldable pub lowest : ℕ → Test → ℕ → ℕ → ℕ → ℕ
+lowest H F a c b = least (λ d. F a c b d) (suc H - c) c
+
+-- byte j of the slot at (a, c): the least height at width j + 1, where it is less than at the width before
+unfoldable pub listByte : ℕ → Test → Grid
+listByte H F a c j =
+    let t = lowest H F a c (a + suc j) in elim (ltb t (lowest H F a c (a + j))) [ true ↦ t - c | false ↦ 0 ]
+
+-- the slot holds the shape of this room, which is on the chip
+unfoldable pub stored : ℕ → ℕ → Grid → Test
+stored W H g a c b d = ltb a b && ltb c d && leb b W && leb d H && eqb (c + g a c (b - suc a)) d
+
+-- in the room lies a shape of the left bytes, with one of the right bytes beside it
+unfoldable pub sideBySide : ℕ → ℕ → Test → Test → Test
+sideBySide B D F G a c b d =
+    leb b B && leb d D
+    && any (suc b) (λ m. any (suc d) (λ d1. F a c m d1) && any (suc b) (λ b2. any (suc d) (λ d2. G m c b2 d2)))
+
+unfoldable pub pairTest : Direction → ℕ → ℕ → Grid → Grid → Test
+pairTest d W H g g' =
+    turn d (sideBySide (across d W H) (across d H W) (turn d (stored W H g)) (turn d (stored W H g')))
