@@ -4,3 +4,4 @@ pub mod Rooms
 pub mod Suiting
 pub mod Fitting
 pub mod Placing
+pub mod Listing

@@ -52,10 +52,13 @@ fits F (cut t d l r) = turn d (parted (turn d (fits F l)) (turn d (fits F r)))
 unfoldable pub lowest : ℕ → Test → ℕ → ℕ → ℕ → ℕ
 lowest H F a c b = least (λ d. F a c b d) (suc H - c) c
 
+abbrev pub onlyIf : Bool → ℕ → ℕ
+onlyIf b n = elim b [ true ↦ n | false ↦ 0 ]
+
 -- byte j of the slot at (a, c): the least height at width j + 1, where it is less than at the width before
 unfoldable pub listByte : ℕ → Test → Grid
 listByte H F a c j =
-    let t = lowest H F a c (a + suc j) in elim (ltb t (lowest H F a c (a + j))) [ true ↦ t - c | false ↦ 0 ]
+    let t = lowest H F a c (a + suc j) in onlyIf (ltb t (lowest H F a c (a + j))) (t - c)
 
 -- the slot holds the shape of this room, which is on the chip
 unfoldable pub stored : ℕ → ℕ → Grid → Test
