@@ -5,3 +5,4 @@ pub mod Suiting
 pub mod Fitting
 pub mod Placing
 pub mod Listing
+pub mod Pairing
