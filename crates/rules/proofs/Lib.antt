@@ -6,3 +6,4 @@ pub mod Fitting
 pub mod Placing
 pub mod Listing
 pub mod Pairing
+pub mod Choosing

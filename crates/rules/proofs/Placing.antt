@@ -14,7 +14,7 @@ use Rattle.rules.specs.declared.Rectangle.{Rectangle}
 use Rattle.rules.specs.Chip.{OnChip, left, right, bottom, top}
 use Rattle.rules.specs.Tree.{Tree, leaf, cut, has}
 use Rattle.rules.specs.Placement.{Placement, begins, ends, Kept, Follows, Lawful, furthest}
-use Rattle.rules.specs.Test.{Test, across, fits, room}
+use Rattle.rules.specs.Test.{Test, across, fits, room, merge}
 use Rattle.rules.proofs.Searching.{absurd-so, or-iff, know}
 use Rattle.rules.proofs.Rooms.{Growing, joined, joined-in, joined-out}
 use Rattle.rules.proofs.Fitting.{fits-growing}
@@ -104,10 +104,7 @@ rows-in : (d : Direction) (m b e : ℕ) {H : ℕ} → m ≤ across d b e → e �
 rows-in Vertical m b e h k = k
 rows-in Horizontal m b e h k = le-trans h k
 
--- one placement for the left child's modules and another for the rest
-unfoldable pub merge : Tree → Placement → Placement → Placement
-merge l p q k = elim (has l k) [ true ↦ p k | false ↦ q k ]
-
+-- merged placements
 pub merge-left : (l : Tree) (p q : Placement) (k : ℕ) → So (has l k) → merge l p q k ≡ p k
 unfolding merge
 merge-left l p q k s = rw (s, merge)

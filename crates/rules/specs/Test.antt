@@ -5,12 +5,15 @@ use Prim.Native.Nat.{ℕ, zero, suc, _+_, _-_, _*_, max}
 use lib.Dec.{leb, ltb, eqb}
 use Rattle.rules.specs.declared.Direction.{Direction}
 use Rattle.rules.specs.declared.Direction.the-variants.{Vertical, Horizontal}
+use Rattle.rules.specs.declared.Corner.{Corner}
+use Rattle.rules.specs.declared.Shape.{Shape}
 use Rattle.rules.specs.declared.Rectangle.{Rectangle}
 use Rattle.rules.specs.declared.Need.{Need}
 use Rattle.rules.specs.Search.{any, least}
-use Rattle.rules.specs.Chip.{Chip, rectangle, heldBetween}
+use Rattle.rules.specs.Chip.{Chip, shape, rectangle, heldBetween}
 use Rattle.rules.specs.Tree.{Tree, leaf, cut, has, position}
 use Rattle.rules.specs.Placement.{Placement}
+use Rattle.rules.specs.Choice.{beside, pairing}
 
 abbrev pub Test : Type 0
 Test = ℕ → ℕ → ℕ → ℕ → Bool
@@ -73,3 +76,55 @@ sideBySide B D F G a c b d =
 unfoldable pub pairTest : Direction → ℕ → ℕ → Grid → Grid → Test
 pairTest d W H g g' =
     turn d (sideBySide (across d W H) (across d H W) (turn d (stored W H g)) (turn d (stored W H g')))
+
+-- of the first n bytes, the width of the shape of least area, of equals the narrowest; 0 where there is none
+abbrev pub better : (ℕ → ℕ) → ℕ → ℕ → ℕ
+better bytes n zero = suc n
+better bytes n (suc i) = elim (ltb (suc n * bytes n) (suc i * bytes i)) [ true ↦ suc n | false ↦ suc i ]
+
+unfoldable pub bestWidth : (ℕ → ℕ) → ℕ → ℕ
+bestWidth bytes zero = 0
+bestWidth bytes (suc n) =
+    let i = bestWidth bytes n in elim (ltb 0 (bytes n)) [ true ↦ better bytes n i | false ↦ i ]
+
+-- the left shape of width i + 1 and the right shape of width j + 1 beside it have this box
+unfoldable pub meets : ℕ → ℕ → Direction → (Corner → ℕ → ℕ) → (Corner → ℕ → ℕ) → Corner → Shape → ℕ → ℕ → Bool
+meets W H d lefts rights c whole i j =
+    let s = shape (suc i) (lefts c i) in let b = beside d c s in let o = shape (suc j) (rights b j) in let p = pairing d s o in
+    ltb 0 (s .h .0) && ltb (b .x .0) W && ltb (b .y .0) H && ltb 0 (o .h .0) && eqb (p .w .0) (whole .w .0) && eqb (p .h .0) (whole .h .0)
+
+-- the first left shape that has a pair, and the first right shape that makes one with it
+unfoldable pub leftIndex : ℕ → ℕ → Direction → (Corner → ℕ → ℕ) → (Corner → ℕ → ℕ) → Corner → Shape → ℕ
+leftIndex W H d lefts rights c whole = least (λ i. any W (meets W H d lefts rights c whole i)) W 0
+
+abbrev pub leftShape : ℕ → ℕ → Direction → (Corner → ℕ → ℕ) → (Corner → ℕ → ℕ) → Corner → Shape → Shape
+leftShape W H d lefts rights c whole = let i = leftIndex W H d lefts rights c whole in shape (suc i) (lefts c i)
+
+unfoldable pub rightIndex : ℕ → ℕ → Direction → (Corner → ℕ → ℕ) → (Corner → ℕ → ℕ) → Corner → Shape → ℕ
+rightIndex W H d lefts rights c whole = least (meets W H d lefts rights c whole (leftIndex W H d lefts rights c whole)) W 0
+
+abbrev pub rightShape : ℕ → ℕ → Direction → (Corner → ℕ → ℕ) → (Corner → ℕ → ℕ) → Corner → Shape → Shape
+rightShape W H d lefts rights c whole =
+    let j = rightIndex W H d lefts rights c whole in shape (suc j) (rights (beside d c (leftShape W H d lefts rights c whole)) j)
+
+unfoldable pub hasPair : ℕ → ℕ → Direction → (Corner → ℕ → ℕ) → (Corner → ℕ → ℕ) → Corner → Shape → Bool
+hasPair W H d lefts rights c whole = any W (λ i. any W (meets W H d lefts rights c whole i))
+
+-- one placement for the left child's modules and another for the rest
+unfoldable pub merge : Tree → Placement → Placement → Placement
+merge l p q k = elim (has l k) [ true ↦ p k | false ↦ q k ]
+
+-- going down finds a pair at every cut and suits every leaf; and the rectangles that it gives
+unfoldable pub goesDown : ℕ → ℕ → (ℕ → Rectangle → Bool) → (ℕ → Corner → ℕ → ℕ) → Tree → Corner → Shape → Bool
+goesDown W H suits slots (leaf t k) c s = suits k (record { corner = c; shape = s })
+goesDown W H suits slots (cut t d l r) c whole =
+    let s = leftShape W H d (slots (position l)) (slots (position r)) c whole in
+    let o = rightShape W H d (slots (position l)) (slots (position r)) c whole in
+    hasPair W H d (slots (position l)) (slots (position r)) c whole && goesDown W H suits slots l c s && goesDown W H suits slots r (beside d c s) o
+
+unfoldable pub laid : ℕ → ℕ → (ℕ → Corner → ℕ → ℕ) → Tree → Corner → Shape → Placement
+laid W H slots (leaf t k) c s = λ _. record { corner = c; shape = s }
+laid W H slots (cut t d l r) c whole =
+    let s = leftShape W H d (slots (position l)) (slots (position r)) c whole in
+    let o = rightShape W H d (slots (position l)) (slots (position r)) c whole in
+    merge l (laid W H slots l c s) (laid W H slots r (beside d c s) o)
