@@ -7,3 +7,4 @@ pub mod Placing
 pub mod Listing
 pub mod Pairing
 pub mod Choosing
+pub mod Descending

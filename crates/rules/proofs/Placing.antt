@@ -79,7 +79,7 @@ begins-beyond : (d : Direction) (a c b e m : ℕ) (r : Rectangle) → Inside (ac
 begins-beyond Vertical a c b e m r z = z .left
 begins-beyond Horizontal a c b e m r z = z .bottom
 
-wider : {a c b d a' c' b' d' : ℕ} {r : Rectangle} → a' ≤ a → c' ≤ c → b ≤ b' → d ≤ d' → Inside a c b d r → Inside a' c' b' d' r
+pub wider : {a c b d a' c' b' d' : ℕ} {r : Rectangle} → a' ≤ a → c' ≤ c → b ≤ b' → d ≤ d' → Inside a c b d r → Inside a' c' b' d' r
 wider p q u v z = record { left = le-trans p (z .left); bottom = le-trans q (z .bottom); right = le-trans (z .right) u; top = le-trans (z .top) v }
 
 -- the line of a cut whose halves pass lies in the room
