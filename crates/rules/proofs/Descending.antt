@@ -22,19 +22,14 @@ use Rattle.rules.specs.Choice.{Taken, Down, beside, pairing}
 use Rattle.rules.specs.Test.{Test, across, leftShape, rightShape, hasPair, goesDown, laid, merge}
 use Rattle.rules.proofs.Searching.{or-iff, and-iff}
 use Rattle.rules.proofs.Fitting.{Decides}
-use Rattle.rules.proofs.Placing.{Once, Inside, PlacedIn, wider, both-placed, merge-left, merge-right}
+use Rattle.rules.proofs.Standing.{Once, Part, whole, in-left, in-right}
+use Rattle.rules.proofs.Placing.{Inside, PlacedIn, wider, both-placed, merge-left, merge-right}
 use Rattle.rules.proofs.Pairing.{ListsAt, pairings-list-the-cut}
 use Rattle.rules.proofs.Choosing.{takes, taken-once, pair-found}
 
 -- something holds of a tree and of every part of it
-unfoldable pub Every : (Tree → Type 0) → Tree → Type 0
-Every P (leaf t k) = P (leaf t k)
-Every P (cut t d l r) = Every P l × Every P r × P (cut t d l r)
-
-pub every-here : (P : Tree → Type 0) (t : Tree) → Every P t → P t
-unfolding Every
-every-here P (leaf t k) z = z
-every-here P (cut t d l r) z = z .2
+abbrev pub Every : (Tree → Type 0) → Tree → Type 0
+Every P t = (u : Tree) → Part u t → P u
 
 module _ (W H : ℕ) (S : ℕ → Rectangle → Type 0) (slots : ℕ → Corner → ℕ → ℕ) where
   -- what goes down hangs on the rectangles of the tree's own modules
@@ -42,7 +37,7 @@ module _ (W H : ℕ) (S : ℕ → Rectangle → Type 0) (slots : ℕ → Corner 
       → Down W H S slots t c s p → Down W H S slots t c s q
   unfolding Down has
   down-same (leaf t k) c s p q e (u, v) = let e' = e k (eq-eqb k k refl) in (rw (← e') u, sym e' ∙ v)
-  down-same (cut t d l r) c whole p q e (s, o, x, y, z) = (
+  down-same (cut t d l r) c box p q e (s, o, x, y, z) = (
     s,
     o,
     x,
@@ -55,13 +50,13 @@ module _ (W H : ℕ) (S : ℕ → Rectangle → Type 0) (slots : ℕ → Corner 
     pub laid-down : (t : Tree) → Once t → (c : Corner) (s : Shape) → So (goesDown W H suits slots t c s) → Down W H S slots t c s (laid W H slots t c s)
     unfolding goesDown laid Down Once
     laid-down (leaf t k) o c s g = (decides k (record { corner = c; shape = s }) .1 g, refl)
-    laid-down (cut t d l r) (ol, or, apart) c whole g =
+    laid-down (cut t d l r) (ol, or, apart) c box g =
         let L = slots (position l) in let R = slots (position r) in
-        let s = leftShape W H d L R c whole in let o = rightShape W H d L R c whole in
-        let (g1, g2) = and-iff (hasPair W H d L R c whole && goesDown W H suits slots l c s) (goesDown W H suits slots r (beside d c s) o) .0 g in
-        let (g0, g1') = and-iff (hasPair W H d L R c whole) (goesDown W H suits slots l c s) .0 g1 in
+        let s = leftShape W H d L R c box in let o = rightShape W H d L R c box in
+        let (g1, g2) = and-iff (hasPair W H d L R c box && goesDown W H suits slots l c s) (goesDown W H suits slots r (beside d c s) o) .0 g in
+        let (g0, g1') = and-iff (hasPair W H d L R c box) (goesDown W H suits slots l c s) .0 g1 in
         let p = laid W H slots l c s in let q = laid W H slots r (beside d c s) o in
-        (s, o, takes W H d L R c whole g0,
+        (s, o, takes W H d L R c box g0,
         down-same l c s p (merge l p q) (λ k i. sym (merge-left l p q k i)) (laid-down l ol c s g1'),
         down-same r (beside d c s) o q (merge l p q) (λ k i. sym (merge-right l r p q k apart i)) (laid-down r or (beside d c s) o g2))
 
@@ -70,14 +65,14 @@ module _ (W H : ℕ) (S : ℕ → Rectangle → Type 0) (slots : ℕ → Corner 
         → So (goesDown W H suits slots t c s) × ((k : ℕ) → So (has t k) → p k ≡ laid W H slots t c s k)
     unfolding goesDown laid Down Once has
     down-laid (leaf t k) o c s p (u, v) = (decides k (record { corner = c; shape = s }) .0 (rw v at u), λ j i. ap p (eqb-true j k i) ∙ v)
-    down-laid (cut t d l r) (ol, or, apart) c whole p (s', o', x, y, z) =
+    down-laid (cut t d l r) (ol, or, apart) c box p (s', o', x, y, z) =
         let L = slots (position l) in let R = slots (position r) in
-        let s = leftShape W H d L R c whole in let o = rightShape W H d L R c whole in
-        let g = pair-found W H d L R c whole s' o' (x .pair) in
-        let (es, eo) = taken-once W H d L R c whole s' o' s o x (takes W H d L R c whole g) in
+        let s = leftShape W H d L R c box in let o = rightShape W H d L R c box in
+        let g = pair-found W H d L R c box s' o' (x .pair) in
+        let (es, eo) = taken-once W H d L R c box s' o' s o x (takes W H d L R c box g) in
         let (gl, el) = down-laid l ol c s p (rw es at y) in let (gr, er) = down-laid r or (beside d c s) o p (rw (es, eo) at z) in
-        (and-iff (hasPair W H d L R c whole && goesDown W H suits slots l c s) (goesDown W H suits slots r (beside d c s) o) .1
-        (and-iff (hasPair W H d L R c whole) (goesDown W H suits slots l c s) .1 (g, gl), gr),
+        (and-iff (hasPair W H d L R c box && goesDown W H suits slots l c s) (goesDown W H suits slots r (beside d c s) o) .1
+        (and-iff (hasPair W H d L R c box) (goesDown W H suits slots l c s) .1 (g, gl), gr),
         λ k i. either k (laid W H slots l c s) (laid W H slots r (beside d c s) o) (el k) (er k) (or-iff (has l k) (has r k) .0 i))
       where
         either : (k : ℕ) (a b : Placement) → (So (has l k) → p k ≡ a k) → (So (has r k) → p k ≡ b k) → So (has l k) ⊎ So (has r k) → p k ≡ merge l a b k
@@ -103,47 +98,48 @@ module _ {W H : ℕ} {S : ℕ → Rectangle → Type 0} where
   widened a c b d a' c' b' d' p q u v z = record { lawful = z .lawful; inside = λ k i. wider p q u v (z .inside k i) }
 
   -- a placement in a shape, and one in the shape beside it, are one of the cut in their box
-  placed-pair : (t : ℕ) (d : Direction) (l r : Tree) (p : Placement) (c : Corner) (s o whole : Shape) → pairing d s o ≡ whole
+  placed-pair : (t : ℕ) (d : Direction) (l r : Tree) (p : Placement) (c : Corner) (s o box : Shape) → pairing d s o ≡ box
       → PlacedIn W H S l p (c .x .0) (c .y .0) (c .x .0 + s .w .0) (c .y .0 + s .h .0)
       → PlacedIn W H S r p (beside d c s .x .0) (beside d c s .y .0) (beside d c s .x .0 + o .w .0) (beside d c s .y .0 + o .h .0)
-      → PlacedIn W H S (cut t d l r) p (c .x .0) (c .y .0) (c .x .0 + whole .w .0) (c .y .0 + whole .h .0)
-  placed-pair t Vertical l r p c s o whole e x y =
-      let ew : s .w .0 + o .w .0 ≡ whole .w .0 = ap (λ n. n .w .0) e in let eh : max (s .h .0) (o .h .0) ≡ whole .h .0 = ap (λ n. n .h .0) e in
-      both-placed t Vertical l r p (c .x .0) (c .y .0) (c .x .0 + whole .w .0) (c .y .0 + whole .h .0) (c .x .0 + s .w .0) (omega arith) (omega arith)
+      → PlacedIn W H S (cut t d l r) p (c .x .0) (c .y .0) (c .x .0 + box .w .0) (c .y .0 + box .h .0)
+  placed-pair t Vertical l r p c s o box e x y =
+      let ew : s .w .0 + o .w .0 ≡ box .w .0 = ap (λ n. n .w .0) e in let eh : max (s .h .0) (o .h .0) ≡ box .h .0 = ap (λ n. n .h .0) e in
+      both-placed t Vertical l r p (c .x .0) (c .y .0) (c .x .0 + box .w .0) (c .y .0 + box .h .0) (c .x .0 + s .w .0) (omega arith) (omega arith)
       (widened _ _ _ _ _ _ _ _ (le-refl _) (le-refl _) (le-refl _) (omega arith) x) (widened _ _ _ _ _ _ _ _ (le-refl _) (le-refl _) (omega arith) (omega arith) y)
-  placed-pair t Horizontal l r p c s o whole e x y =
-      let ew : max (s .w .0) (o .w .0) ≡ whole .w .0 = ap (λ n. n .w .0) e in let eh : s .h .0 + o .h .0 ≡ whole .h .0 = ap (λ n. n .h .0) e in
-      both-placed t Horizontal l r p (c .x .0) (c .y .0) (c .x .0 + whole .w .0) (c .y .0 + whole .h .0) (c .y .0 + s .h .0) (omega arith) (omega arith)
+  placed-pair t Horizontal l r p c s o box e x y =
+      let ew : max (s .w .0) (o .w .0) ≡ box .w .0 = ap (λ n. n .w .0) e in let eh : s .h .0 + o .h .0 ≡ box .h .0 = ap (λ n. n .h .0) e in
+      both-placed t Horizontal l r p (c .x .0) (c .y .0) (c .x .0 + box .w .0) (c .y .0 + box .h .0) (c .y .0 + s .h .0) (omega arith) (omega arith)
       (widened _ _ _ _ _ _ _ _ (le-refl _) (le-refl _) (omega arith) (le-refl _) x) (widened _ _ _ _ _ _ _ _ (le-refl _) (le-refl _) (omega arith) (omega arith) y)
 
   -- whatever a stranger wrote, if only in stairs: what goes down is a lawful placement in the shape asked
   pub down-placed : (slots : ℕ → Corner → ℕ → ℕ) (t : Tree) (c : Corner) (s : Shape) (p : Placement)
       → Every (λ u. (c : Corner) → CornerOn W H c → Stair W H c (slots (position u) c)) t → CornerOn W H c → Stores W (slots (position t) c) s
       → Down W H S slots t c s p → PlacedIn W H S t p (c .x .0) (c .y .0) (c .x .0 + s .w .0) (c .y .0 + s .h .0)
-  unfolding Down Every Follows has
+  unfolding Down Follows has
   down-placed slots (leaf t k) c s p st on z (u, v) =
-      let chip = stair-on-chip W H c (slots t c) s on (st c on) z in
+      let chip = stair-on-chip W H c (slots t c) s on (st (leaf t k) whole c on) z in
       record {
         lawful = record { onChip = λ j i. rw (eqb-true j k i, v) chip; suits = λ j i. rw (eqb-true j k i) u; follows = tt };
         inside = λ j i. rw (eqb-true j k i, v) (record { left = le-refl _; bottom = le-refl _; right = le-refl _; top = le-refl _ });
       }
-  down-placed slots (cut t d l r) c whole p (stl, str, st) on z (s, o, x, y, w) =
-      placed-pair t d l r p c s o whole (x .pair .box)
-      (down-placed slots l c s p stl on (x .pair .left) y)
-      (down-placed slots r (beside d c s) o p str (x .pair .corner) (x .pair .right) w)
+  down-placed slots (cut t d l r) c box p st on z (s, o, x, y, w) =
+      placed-pair t d l r p c s o box (x .pair .box)
+      (down-placed slots l c s p (λ u q. st u (in-left q)) on (x .pair .left) y)
+      (down-placed slots r (beside d c s) o p (λ u q. st u (in-right q)) (x .pair .corner) (x .pair .right) w)
 
   -- over a design's own lists going down never fails
   module _ {F : ℕ → Test} (dec : Decides W H S F) (suits : ℕ → Rectangle → Bool) (decides : (k : ℕ) (r : Rectangle) → S k r ↔ So (suits k r)) where
     pub own-goes-down : (slots : ℕ → Corner → ℕ → ℕ) (t : Tree) → Every (λ u. ListsAt W H S (slots (position u)) u) t
         → (c : Corner) (s : Shape) → CornerOn W H c → Listed W H S t c s → So (goesDown W H suits slots t c s)
-    unfolding goesDown Every Realizes
+    unfolding goesDown Realizes
     own-goes-down slots (leaf t k) own c s on z = decides k (record { corner = c; shape = s }) .0 (z .is .1)
-    own-goes-down slots (cut t d l r) (ol, or, own) c whole on z =
+    own-goes-down slots (cut t d l r) own c box on z =
         let L = slots (position l) in let R = slots (position r) in
-        let s = leftShape W H d L R c whole in let o = rightShape W H d L R c whole in
-        let ll = every-here (λ u. ListsAt W H S (slots (position u)) u) l ol in let lr = every-here (λ u. ListsAt W H S (slots (position u)) u) r or in
-        let q = pairings-list-the-cut dec t d l r L R ll lr c whole .1 z .is in
-        let g = pair-found W H d L R c whole (q .s) (q .o) (q .pair) in let k = takes W H d L R c whole g .pair in
-        and-iff (hasPair W H d L R c whole && goesDown W H suits slots l c s) (goesDown W H suits slots r (beside d c s) o) .1
-        (and-iff (hasPair W H d L R c whole) (goesDown W H suits slots l c s) .1 (g, own-goes-down slots l ol c s on (ll c on s .0 (k .left))),
-        own-goes-down slots r or (beside d c s) o (k .corner) (lr (beside d c s) (k .corner) o .0 (k .right)))
+        let s = leftShape W H d L R c box in let o = rightShape W H d L R c box in
+        let ll = own l (in-left whole) in let lr = own r (in-right whole) in
+        let q = pairings-list-the-cut dec t d l r L R ll lr c box .1 z .is in
+        let g = pair-found W H d L R c box (q .s) (q .o) (q .pair) in let k = takes W H d L R c box g .pair in
+        and-iff (hasPair W H d L R c box && goesDown W H suits slots l c s) (goesDown W H suits slots r (beside d c s) o) .1
+        (and-iff (hasPair W H d L R c box) (goesDown W H suits slots l c s) .1
+        (g, own-goes-down slots l (λ u q. own u (in-left q)) c s on (ll c on s .0 (k .left))),
+        own-goes-down slots r (λ u q. own u (in-right q)) (beside d c s) o (k .corner) (lr (beside d c s) (k .corner) o .0 (k .right)))

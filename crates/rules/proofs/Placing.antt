@@ -17,12 +17,8 @@ use Rattle.rules.specs.Placement.{Placement, begins, ends, Kept, Follows
 use Rattle.rules.specs.Test.{Test, across, fits, room, merge}
 use Rattle.rules.proofs.Searching.{absurd-so, or-iff, know}
 use Rattle.rules.proofs.Rooms.{Growing, joined, joined-in, joined-out}
+use Rattle.rules.proofs.Standing.{Once}
 use Rattle.rules.proofs.Fitting.{fits-growing}
-
--- no module stands twice
-unfoldable pub Once : Tree → Type 0
-Once (leaf t k) = Unit {0}
-Once (cut t d l r) = Once l × Once r × ((k : ℕ) → So (has l k) → So (has r k) → ⊥)
 
 -- a rectangle in a room
 pub record Inside (a c b d : ℕ) (r : Rectangle) : Type 0 where

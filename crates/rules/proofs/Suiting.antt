@@ -6,10 +6,14 @@ use Prim.Native.Nat.{ℕ, _≤_}
 use native.Mathlib.Omega.{arith}
 use Rattle.rules.specs.declared.Need.{Need}
 use Rattle.rules.specs.declared.Rectangle.{Rectangle}
-use Rattle.rules.specs.Chip.{Chip, OnChip, Suits, holds, heldBetween, coversBlock, left, right, bottom, top}
+use Rattle.rules.specs.declared.Design.{Design}
+use Rattle.rules.specs.Design.{chipOf, needAt, SuitsOf}
+use Rattle.rules.specs.Check.{isAtMost}
+use Rattle.rules.specs.Chip.{Chip, OnChip, AtMost, Suits, holds, heldBetween, coversBlock, left, right, bottom, top}
 use Rattle.rules.specs.Test.{suitsRoom}
 use Rattle.rules.proofs.Searching.{test-iffs, count-le, total-le}
 use Rattle.rules.proofs.Rooms.{Growing}
+use Rattle.rules.proofs.Fitting.{Decides}
 
 held-grows : (C : Chip) (k a c b d a' c' b' d' : ℕ) → a' ≤ a → c' ≤ c → b ≤ b' → d ≤ d' → heldBetween C k a c b d ≤ heldBetween C k a' c' b' d'
 unfolding heldBetween coversBlock
@@ -38,6 +42,19 @@ suits-decided C n r = (
       (record { wide = omega arith; high = omega arith; columns = omega arith; rows = omega arith },
       record { clbs = omega arith; rams = omega arith; multipliers = omega arith }),
 )
+
+-- the checker's test of a need is 01's rule
+pub at-most-decided : (n m : Need) → AtMost n m ↔ So (isAtMost n m)
+unfolding isAtMost
+at-most-decided n m = (
+  λ s. simp test-iffs ((s .clbs, s .rams), s .multipliers),
+  λ t. let h = simp test-iffs at t in record { clbs = h .0 .0; rams = h .0 .1; multipliers = h .1 },
+)
+
+-- what a design's leaves list is decided by the test of their rooms
+pub design-decides : (d : Design) → Decides (d .width .0) (d .height .0) (SuitsOf d) (λ k. suitsRoom (chipOf d) (needAt d k))
+unfolding chipOf
+design-decides d = record { growing = λ k. suits-growing (chipOf d) (needAt d k); decides = λ k. suits-decided (chipOf d) (needAt d k) }
 
 -- "a larger rectangle on the chip suits if a part of it does"
 pub larger-suits : (C : Chip) (n : Need) (part whole : Rectangle) → OnChip (C .width) (C .height) part → Suits C n part

@@ -15,6 +15,8 @@ use Rattle.rules.specs.declared.Reply.the-variants.{Done, Refused}
 use Rattle.rules.specs.Search.{all}
 use Rattle.rules.specs.Chip.{Chip, columnOf, Suits}
 use Rattle.rules.specs.Tree.{Tree, Standing, refused, things, tokenOf, standing, last}
+use Rattle.rules.specs.Placement.{Placement, Lawful}
+use Rattle.rules.specs.Slot.{FullLists}
 
 -- "Limits: W 1..64, H 1..64, B 1..H, kinds 0..2, modules m 1..16, each of a need's three numbers 0..65,535, not all three
 -- zero." The numbers are said here alone, and no law names them.
@@ -84,6 +86,13 @@ nodeAt d t = last (standingOf d (suc t))
 
 abbrev pub root : Design → Tree
 root d = last (standingOf d (nodes d))
+
+-- a lawful placement of the design, and work bytes that hold its full lists
+abbrev pub LawfulPlacement : Design → Placement → Type 0
+LawfulPlacement d p = Lawful (d .width .0) (d .height .0) (SuitsOf d) (root d) p
+
+abbrev pub OwnLists : Design → List ℕ → Type 0
+OwnLists d work = FullLists (d .width .0) (d .height .0) (SuitsOf d) (nodeAt d) (nodes d) work
 
 -- 5: "token over m+1, module repeated, or cut with fewer than two things standing"; 6: "tokens used up and not exactly one
 -- thing stands"

@@ -1,6 +1,7 @@
 -- 01, "The tree and what follows it": what follows it.
+use mathlib.Core.Path.{_≡_}
 use mathlib.Core.Bool.{So}
-use Prim.Native.Nat.{ℕ, _*_, _≤_, max}
+use Prim.Native.Nat.{ℕ, _*_, _≤_, _<_, max}
 use Rattle.rules.specs.declared.Direction.{Direction}
 use Rattle.rules.specs.declared.Direction.the-variants.{Vertical, Horizontal}
 use Rattle.rules.specs.declared.Rectangle.{Rectangle}
@@ -37,6 +38,15 @@ pub record Lawful (W H : ℕ) (Suits : ℕ → Rectangle → Type 0) (t : Tree) 
   pub onChip : (k : ℕ) → So (has t k) → OnChip W H (p k)
   pub suits : (k : ℕ) → So (has t k) → Suits k (p k)
   pub follows : Follows t p
+
+-- "A cell is one column wide and one CLB high": the rectangle covers the cell in column x and row y.
+pub record Covers (r : Rectangle) (x y : ℕ) : Type 0 where
+  pub column : (left r ≤ x) × (x < right r)
+  pub row : (bottom r ≤ y) × (y < top r)
+
+-- 00: the rectangles "share no cell"
+abbrev pub ShareNoCell : Tree → Placement → Type 0
+ShareNoCell t p = (i j x y : ℕ) → So (has t i) → So (has t j) → Covers (p i) x y → Covers (p j) x y → i ≡ j
 
 -- 00: the "box .. drawn from the chip's lower left corner" round a placement's rectangles
 unfoldable pub furthest : (Rectangle → ℕ) → Tree → Placement → ℕ

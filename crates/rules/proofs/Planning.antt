@@ -1,0 +1,128 @@
+-- What choosing and going down over a design's own lists promise: no placement is lawful exactly if the root's list at (0, 0) is
+-- empty; otherwise the floorplan chosen is lawful, shares no cell, and has the least box. Assumes nothing.
+use mathlib.Core.Path.{_≡_, refl, sym, _∙_, ap}
+use mathlib.Core.Logic.{_⊎_, inl, inr, _↔_}
+use mathlib.Core.List.{List}
+use mathlib.Core.Bool.{Bool, So, _||_}
+use Prim.Native.Nat.{ℕ, suc, _+_, _-_, _*_, _≤_, _<_, max}
+use native.Mathlib.Omega.{arith}
+use native.Mathlib.Nat.{le-refl, le-trans, mul-le-mul}
+use native.Mathlib.Decide.{decLt}
+use borrow.Author.Tests.{eqb-true}
+use Rattle.rules.specs.declared.Corner.{Corner}
+use Rattle.rules.specs.declared.Shape.{Shape}
+use Rattle.rules.specs.declared.Rectangle.{Rectangle}
+use Rattle.rules.specs.declared.Direction.{Direction}
+use Rattle.rules.specs.declared.Direction.the-variants.{Vertical, Horizontal}
+use Rattle.rules.specs.Chip.{OnChip, corner, shape, left, right, bottom, top}
+use Rattle.rules.specs.Tree.{Tree, leaf, cut, has, position}
+use Rattle.rules.specs.Placement.{Placement, Follows, Kept, Lawful, Covers, ShareNoCell, begins, ends, furthest, box, area}
+use Rattle.rules.specs.Shape.{Realizes, ShapeAt, Listed}
+use Rattle.rules.specs.Slot.{Stores, CornerOn, IsListOf, Stair}
+use Rattle.rules.specs.Test.{Test, fits, room}
+use Rattle.rules.proofs.Searching.{or-iff}
+use Rattle.rules.proofs.Standing.{Once}
+use Rattle.rules.proofs.Rooms.{Growing}
+use Rattle.rules.proofs.Fitting.{Decides, realizes-fits, fits-growing, room-right}
+use Rattle.rules.proofs.Placing.{Inside, PlacedIn, Leaves, placed-fits, fits-placed, furthest-within, furthest-reaches}
+use Rattle.rules.proofs.Listing.{same-shape, list-complete, list-sorted}
+use Rattle.rules.proofs.Choosing.{byte-stores}
+
+-- where a module's rectangle is its whole room, the laws ask of a leaf what its test decides
+pub plain-leaves : {W H : ℕ} {S : ℕ → Rectangle → Type 0} {F : ℕ → Test} → Decides W H S F → Leaves W H S F (λ k. room)
+plain-leaves {W} {H} {S} {F} dec = record {
+  growing = dec .growing;
+  passes = λ k r o s. dec .decides k r .0 (o, s);
+  onChip = λ k a c b d t. given k a c b d t .0;
+  suits = λ k a c b d t. given k a c b d t .1;
+  inside = λ k a c b d t. let z = dec .growing k .solid a c b d t in record { left = omega arith; bottom = omega arith; right = omega arith; top = omega arith };
+}
+  where
+    given : (k a c b d : ℕ) → So (F k a c b d) → OnChip W H (room a c b d) × S k (room a c b d)
+    given k a c b d t =
+        let z = dec .growing k .solid a c b d t in
+        dec .decides k (room a c b d) .1 (rw (room-right a b (omega arith), room-right c d (omega arith)) t)
+
+-- rectangles that follow a tree share no cell
+pub follow-apart : (t : Tree) (p : Placement) → Follows t p → ShareNoCell t p
+unfolding Follows has
+follow-apart (leaf t k) p f i j x y a b u v = eqb-true i k a ∙ sym (eqb-true j k b)
+follow-apart (cut t d l r) p (fl, fr, kept) i j x y a b u v =
+    go (or-iff (has l i) (has r i) .0 a) (or-iff (has l j) (has r j) .0 b) (follow-apart l p fl i j x y) (follow-apart r p fr i j x y)
+  where
+    crossed : (d : Direction) (q o : Rectangle) → ends d q ≤ begins d o → Covers q x y → Covers o x y → ⊥
+    crossed Vertical q o h m n = let z = m .column in let w = n .column in omega arith
+    crossed Horizontal q o h m n = let z = m .row in let w = n .row in omega arith
+
+    go : So (has l i) ⊎ So (has r i) → So (has l j) ⊎ So (has r j)
+        → (So (has l i) → So (has l j) → Covers (p i) x y → Covers (p j) x y → i ≡ j) → (So (has r i) → So (has r j) → Covers (p i) x y → Covers (p j) x y → i ≡ j) → i ≡ j
+    go (inl s) (inl w) f g = f s w u v
+    go (inr s) (inr w) f g = g s w u v
+    go (inl s) (inr w) f g = absurd (crossed d (p i) (p j) (kept i j s w) u v)
+    go (inr s) (inl w) f g = absurd (crossed d (p j) (p i) (kept j i w s) v u)
+
+module _ {W H : ℕ} {S : ℕ → Rectangle → Type 0} {F : ℕ → Test} (dec : Decides W H S F) where
+  -- every shape of a tree is on the chip
+  realizes-on-chip : (t : Tree) (r : Rectangle) → Realizes W H S t r → OnChip W H r
+  realizes-on-chip t r z =
+      let s = fits-growing F (dec .growing) t .solid (left r) (bottom r) (right r) (top r) (realizes-fits dec t r .0 z) in
+      record { wide = omega arith; high = omega arith; columns = s .2; rows = s .3 }
+
+  -- a list is a stair
+  pub list-stair : (t : Tree) (c : Corner) (g : ℕ → ℕ) → IsListOf W g (ShapeAt W H S t c) → Stair W H c g
+  list-stair t c g l = record {
+    fall = λ i j h k p q. list-sorted W g l (shape (suc i) (g i)) (shape (suc j) (g j)) (byte-stores W g i (omega arith) p) (byte-stores W g j k q) (omega arith);
+    rows = λ j h. low j h (decLt 0 (g j));
+    columns = λ j h k. narrow j h k (decLt 0 (g j));
+  }
+    where
+      on : (j : ℕ) → j < W → 0 < g j → OnChip W H (record { corner = c; shape = shape (suc j) (g j) })
+      on j h p = realizes-on-chip t _ (l (shape (suc j) (g j)) .0 (byte-stores W g j h p) .is)
+
+      low : (j : ℕ) → j < W → Dec (0 < g j) → g j ≤ H - c .y .0
+      low j h (yes p) = let o = on j h p .rows in omega arith
+      low j h (no p) = omega arith
+
+      narrow : (j : ℕ) → j < W → W - c .x .0 < suc j → Dec (0 < g j) → g j ≡ 0
+      narrow j h k (yes p) = let o = on j h p .columns in absurd (omega arith)
+      narrow j h k (no p) = omega arith
+
+  module _ (t : Tree) where
+    -- "a room holds a shape exactly if a placement of that part of the tree lies in it and follows it"
+    pub realizes-placed : Once t → (r : Rectangle) → right r ≤ W → top r ≤ H
+        → Realizes W H S t r ↔ ((p : Placement) × PlacedIn W H S t p (left r) (bottom r) (right r) (top r))
+    realizes-placed once r h k = (
+      λ z. fits-placed (plain-leaves dec) t once _ _ _ _ (realizes-fits dec t r .0 z),
+      λ z. realizes-fits dec t r .1 (placed-fits (plain-leaves dec) t (z .0) _ _ _ _ (z .1) h k),
+    )
+
+    -- a lawful placement's own box is a shape of the tree at (0, 0)
+    box-shape : (p : Placement) → Lawful W H S t p → ShapeAt W H S t (corner 0 0) (box t p)
+    box-shape p z =
+        let w = furthest-within right t p W (λ k i. z .onChip k i .columns) in let h = furthest-within top t p H (λ k i. z .onChip k i .rows) in
+        realizes-fits dec t (record { corner = corner 0 0; shape = box t p }) .1
+        (placed-fits (plain-leaves dec) t p _ _ _ _
+        (record {
+          lawful = z;
+          inside = λ k i. let a = furthest-reaches right t p k i in let b = furthest-reaches top t p k i in
+              record { left = omega arith; bottom = omega arith; right = omega arith; top = omega arith };
+        }) (omega arith) (omega arith))
+
+    -- "no placement" exactly if the root's list at (0, 0) is empty
+    pub none-listed : Once t → ((p : Placement) → Lawful W H S t p → ⊥) ↔ ((s : Shape) → Listed W H S t (corner 0 0) s → ⊥)
+    none-listed once = (
+      λ f s z. let o = realizes-on-chip t _ (z .is) in
+          f (realizes-placed once _ (o .columns) (o .rows) .0 (z .is) .0) (realizes-placed once _ (o .columns) (o .rows) .0 (z .is) .1 .lawful),
+      λ f p z. let (o, l, _) = list-complete dec t (corner 0 0) (box t p) (box-shape p z) in f o l,
+    )
+
+    -- no lawful placement has a box of smaller area than the smallest listed shape
+    pub least-box : (s : Shape) → ((o : Shape) → Listed W H S t (corner 0 0) o → area s ≤ area o) → (p : Placement) → Lawful W H S t p → area s ≤ area (box t p)
+    least-box s f p z =
+        let (o, l, d) = list-complete dec t (corner 0 0) (box t p) (box-shape p z) in le-trans (f o l) (mul-le-mul (d .wide) (d .high))
+
+    -- a placement in a listed shape at (0, 0) fills it
+    pub box-is : (s : Shape) (p : Placement) → Listed W H S t (corner 0 0) s → PlacedIn W H S t p 0 0 (0 + s .w .0) (0 + s .h .0) → box t p ≡ s
+    box-is s p l z =
+        let a = furthest-within right t p (0 + s .w .0) (λ k i. z .inside k i .right) in let b = furthest-within top t p (0 + s .h .0) (λ k i. z .inside k i .top) in
+        l .alone (box t p) (box-shape p (z .lawful)) (record { wide = omega arith; high = omega arith })

@@ -1,0 +1,431 @@
+-- What stands after some tokens, and the nodes of a design's tree. Each token adds a leaf or joins the two things standing
+-- last, so these are inductions on the tokens read; that 2m-1 tokens leave one thing follows by counting the modules that
+-- stand. Assumes nothing.
+use mathlib.Core.Path.{_≡_, refl, sym, ap, fun-ext}
+use mathlib.Core.Logic.{_⊎_, inl, inr, _↔_}
+use mathlib.Core.Bool.{Bool, true, false, not, _&&_, _||_, So}
+use mathlib.Core.List.{List, [], _∷_}
+use Prim.Native.Nat.{ℕ, zero, suc, _+_, _-_, _*_, _≤_, _<_, min}
+use native.Mathlib.Omega.{arith}
+use native.Mathlib.Nat.{le-refl}
+use native.Mathlib.Decide.{decLt, ℕ-discrete}
+use lib.Dec.{ltb, eqb}
+use lib.ListN.{length}
+use Rattle.rules.specs.declared.Direction.{Direction}
+use Rattle.rules.specs.declared.Token.{Token}
+use Rattle.rules.specs.declared.Token.the-variants.{Cut, Module, Beyond}
+use Rattle.rules.specs.declared.Design.{Design}
+use Rattle.rules.specs.declared.Refusal.the-variants.{BreaksLimits, NotOneThing}
+use Rattle.rules.specs.declared.Reply.{Reply}
+use Rattle.rules.specs.declared.Reply.the-variants.{Done, Refused}
+use Rattle.rules.specs.Search.{count}
+use Rattle.rules.specs.Tree.{Tree, leaf, cut, position, has, Standing, refused, things, stands, joined, added, after, standing, last}
+use Rattle.rules.specs.Placement.{Placement, Kept, Follows}
+use Rattle.rules.specs.Design.{mostModules, tokenAt, nodes, inRange, withinLimits, standingOf, nodeAt, root, treeTest, valueTest}
+use Rattle.rules.specs.Design.{LawfulDesign}
+use Rattle.rules.proofs.Searching.{absurd-so, and-iff, or-iff, not-iff, ltb-iff, eqb-iff, know, count-yes, count-no, test-iffs}
+
+-- no module stands twice
+unfoldable pub Once : Tree → Type 0
+Once (leaf t k) = Unit {0}
+Once (cut t d l r) = Once l × Once r × ((k : ℕ) → So (has l k) → So (has r k) → ⊥)
+
+-- a part of a tree: the tree itself, or a part of a child
+pub data Part (u : Tree) : Tree → Type 0 where
+  whole : Part u u
+  in-left : {t : ℕ} {d : Direction} {l r : Tree} → Part u l → Part u (cut t d l r)
+  in-right : {t : ℕ} {d : Direction} {l r : Tree} → Part u r → Part u (cut t d l r)
+
+-- a part of one of the things standing
+pub data Among (u : Tree) : List Tree → Type 0 where
+  here : {t : Tree} {ts : List Tree} → Part u t → Among u (t ∷ ts)
+  there : {t : Tree} {ts : List Tree} → Among u ts → Among u (t ∷ ts)
+
+-- the first n tokens were read, none was refused, and the list stands
+pub data Reading (m : ℕ) (token : ℕ → Token) : ℕ → List Tree → Type 0 where
+  none-read : Reading m token 0 []
+  module-read : {n k : ℕ} {ts : List Tree} → Reading m token n ts → token n ≡ Module k → k < m → (So (stands ts k) → ⊥)
+      → Reading m token (suc n) (leaf n k ∷ ts)
+  cut-read : {n : ℕ} {d : Direction} {l r : Tree} {ts : List Tree} → Reading m token n (r ∷ (l ∷ ts)) → token n ≡ Cut d
+      → Reading m token (suc n) (cut n d l r ∷ ts)
+
+-- node t: what stands last after the token at position t
+abbrev pub node : ℕ → (ℕ → Token) → ℕ → Tree
+node m token t = last (standing m token (suc t))
+
+-- the token at position t has been read, and all that stood after it are parts of what stands now
+pub record Earlier (m : ℕ) (token : ℕ → Token) (t : ℕ) (now : List Tree) : Type 0 where
+  pub others : List Tree
+  pub reading : Reading m token (suc t) (node m token t ∷ others)
+  pub still : (u : Tree) → Among u (node m token t ∷ others) → Among u now
+
+-- "A cut joins the two things standing last, the earlier being its left child": its right child is the node just before it,
+-- its left child some node before that.
+pub record Children (m : ℕ) (token : ℕ → Token) (t : ℕ) (l r : Tree) : Type 0 where
+  pub left-before : position l < position r
+  pub right-before : suc (position r) ≡ t
+  pub left-is : l ≡ node m token (position l)
+  pub right-is : r ≡ node m token (position r)
+
+-- a tree that stands at position t as the token there says
+pub data Node (m : ℕ) (token : ℕ → Token) (t : ℕ) : Tree → Type 0 where
+  is-leaf : {k : ℕ} → token t ≡ Module k → k < m → Node m token t (leaf t k)
+  is-cut : {d : Direction} {l r : Tree} → token t ≡ Cut d → Children m token t l r → Node m token t (cut t d l r)
+
+none-of-refused : {A : Type 0} (ts : List Tree) → refused ≡ things ts → A
+none-of-refused ts e = let z : _≡_ {A = ℕ} 0 1 = cc in absurd (omega arith)
+
+joined-among : {u l r : Tree} {t : ℕ} {d : Direction} {ts : List Tree} → Among u (r ∷ (l ∷ ts)) → Among u (cut t d l r ∷ ts)
+joined-among (here p) = here (in-right p)
+joined-among (there (here p)) = here (in-left p)
+joined-among (there (there a)) = there a
+
+module _ {m : ℕ} {token : ℕ → Token} where
+  one-read : (n : ℕ) (ts us : List Tree) (k : Token) → token n ≡ k → Reading m token n ts → after m n k ts ≡ things us
+      → Reading m token (suc n) us
+  unfolding joined added
+  one-read n [] us (Cut d) e r q = none-of-refused us q
+  one-read n (a ∷ []) us (Cut d) e r q = none-of-refused us q
+  one-read n (a ∷ (b ∷ ts)) us (Cut d) e r q = let w : cut n d b a ∷ ts ≡ us = cc in rw w at (cut-read r e)
+  one-read n ts us (Module k) e r q = go (ltb k m && not (stands ts k)) refl q
+    where
+      go : (b : Bool) → ltb k m && not (stands ts k) ≡ b
+          → elim b as (λ _. Standing) [ true ↦ things (leaf n k ∷ ts) | false ↦ refused ] ≡ things us → Reading m token (suc n) us
+      go true t q =
+          let (a, b) = and-iff (ltb k m) (not (stands ts k)) .0 t in let w : leaf n k ∷ ts ≡ us = cc in
+          rw w at (module-read r e (ltb-iff k m .0 a) (not-iff (stands ts k) .0 b))
+      go false t q = none-of-refused us q
+  one-read n ts us Beyond e r q = none-of-refused us q
+
+  -- what is computed to stand is what was read, and back
+  pub was-read : (n : ℕ) (ts : List Tree) → standing m token n ≡ things ts → Reading m token n ts
+  unfolding standing
+  was-read zero ts e = let r : Reading m token 0 [] = none-read in let w : [] ≡ ts = cc in rw w at r
+  was-read (suc n) ts e = go (standing m token n) refl e (was-read n)
+    where
+      go : (s : Standing) → standing m token n ≡ s
+          → elim s as (λ _. Standing) [ refused ↦ refused | things us ↦ after m n (token n) us ] ≡ things ts
+          → ((us : List Tree) → standing m token n ≡ things us → Reading m token n us) → Reading m token (suc n) ts
+      go refused q e ih = none-of-refused ts e
+      go (things us) q e ih = one-read n us ts (token n) refl (ih us q) e
+
+  pub read-stands : {n : ℕ} {ts : List Tree} → Reading m token n ts → standing m token n ≡ things ts
+  unfolding standing added joined
+  read-stands none-read = refl
+  read-stands (module-read {k = k} {ts = ts} r e h f) = rw (read-stands r, e, added, ltb-iff k m .1 h, not-iff (stands ts k) .1 f)
+  read-stands (cut-read r e) = rw (read-stands r, e)
+
+  pub last-is : {t : ℕ} {u : Tree} {us : List Tree} → Reading m token (suc t) (u ∷ us) → u ≡ node m token t
+  last-is r = rw (read-stands r)
+
+  now-or-earlier : {n : ℕ} {u : Tree} {us : List Tree} → Reading m token (suc n) (u ∷ us) → (t : ℕ) → t < suc n
+      → (t < n → Earlier m token t (u ∷ us)) → Earlier m token t (u ∷ us)
+  now-or-earlier {n} {u} {us} r t h f = go (ℕ-discrete n t)
+    where
+      go : Dec (n ≡ t) → Earlier m token t (u ∷ us)
+      go (yes e) = let q : u ≡ node m token t = rw (← e) (last-is r) in
+          record { others = us; reading = rw (← q, ← e) r; still = λ w a. rw q a }
+      go (no e) = f (omega arith)
+
+  -- a prefix is fine, and what stood after it is still a part of what stands
+  pub earlier : {n : ℕ} {ts : List Tree} → Reading m token n ts → (t : ℕ) → t < n → Earlier m token t ts
+  earlier none-read t h = absurd (omega arith)
+  earlier (module-read r e b f) t h = now-or-earlier (module-read r e b f) t h λ g.
+      let E = earlier r t g in record { others = E .others; reading = E .reading; still = λ u a. there (E .still u a) }
+  earlier (cut-read r e) t h = now-or-earlier (cut-read r e) t h λ g.
+      let E = earlier r t g in record { others = E .others; reading = E .reading; still = λ u a. joined-among (E .still u a) }
+
+  pub prefix-read : {n : ℕ} {ts : List Tree} → Reading m token n ts → (t : ℕ) → t ≤ n → (us : List Tree) × Reading m token t us
+  prefix-read r zero h = ([], none-read)
+  prefix-read r (suc t) h = let E = earlier r t h in (node m token t ∷ E .others, E .reading)
+
+  -- every node of the tokens read is a part of what stands
+  pub node-among : {n : ℕ} {ts : List Tree} → Reading m token n ts → (t : ℕ) → t < n → Among (node m token t) ts
+  node-among r t h = earlier r t h .still (node m token t) (here whole)
+
+  -- and every part of what stands is the node of its own position
+  pub among-node : {n : ℕ} {ts : List Tree} {u : Tree} → Reading m token n ts → Among u ts
+      → (position u < n) × (u ≡ node m token (position u))
+  among-node (module-read r e b f) (here whole) = (omega arith, last-is (module-read r e b f))
+  among-node (module-read r e b f) (there a) = let (h, q) = among-node r a in (omega arith, q)
+  among-node (cut-read r e) (here whole) = (omega arith, last-is (cut-read r e))
+  among-node (cut-read r e) (here (in-left p)) = let (h, q) = among-node r (there (here p)) in (omega arith, q)
+  among-node (cut-read r e) (here (in-right p)) = let (h, q) = among-node r (here p) in (omega arith, q)
+  among-node (cut-read r e) (there a) = let (h, q) = among-node r (there (there a)) in (omega arith, q)
+
+  pub last-position : {n : ℕ} {u : Tree} {us : List Tree} → Reading m token n (u ∷ us) → suc (position u) ≡ n
+  last-position (module-read r e b f) = refl
+  last-position (cut-read r e) = refl
+
+  others-before : {n : ℕ} {u v : Tree} {us : List Tree} → Reading m token n (v ∷ us) → Among u us → position u < position v
+  others-before (module-read r e b f) a = among-node r a .0
+  others-before (cut-read r e) a = among-node r (there (there a)) .0
+
+  -- what stands last after a token is what the token says
+  pub node-is : {n : ℕ} {ts : List Tree} → Reading m token n ts → (t : ℕ) → t < n → Node m token t (node m token t)
+  node-is r t h = go (earlier r t h .reading)
+    where
+      go : {u : Tree} {us : List Tree} → Reading m token (suc t) (u ∷ us) → Node m token t u
+      go (module-read r e b f) = is-leaf e b
+      go (cut-read r e) = is-cut e (record {
+        left-before = others-before r (here whole);
+        right-before = last-position r;
+        left-is = among-node r (there (here whole)) .1;
+        right-is = among-node r (here whole) .1;
+      })
+
+  pub node-position : {t : ℕ} {u : Tree} → Node m token t u → position u ≡ t
+  node-position (is-leaf e h) = refl
+  node-position (is-cut e c) = refl
+
+  pub node-module : {t k : ℕ} {u : Tree} → Node m token t u → token t ≡ Module k → u ≡ leaf t k
+  node-module (is-leaf e h) q = cc
+  node-module (is-cut e c) q = let z : _≡_ {A = ℕ} 0 1 = cc in absurd (omega arith)
+
+  pub node-cut : {t : ℕ} {d : Direction} {u : Tree} → Node m token t u → token t ≡ Cut d → (l : Tree) × (r : Tree) × (u ≡ cut t d l r)
+  node-cut (is-leaf e h) q = let z : _≡_ {A = ℕ} 0 1 = cc in absurd (omega arith)
+  node-cut (is-cut {l = l} {r = r} e c) q = (l, r, cc)
+
+-- a tree has what its parts have
+pub part-has : {w u : Tree} → Part w u → (k : ℕ) → So (has w k) → So (has u k)
+unfolding has
+part-has whole k t = t
+part-has (in-left {l = l} {r = r} p) k t = or-iff (has l k) (has r k) .1 (inl (part-has p k t))
+part-has (in-right {l = l} {r = r} p) k t = or-iff (has l k) (has r k) .1 (inr (part-has p k t))
+
+pub leaf-of : (u : Tree) (k : ℕ) → So (has u k) → (t : ℕ) × Part (leaf t k) u
+unfolding has
+leaf-of (leaf t j) k s = (t, rw (eqb-iff k j .0 s) whole)
+leaf-of (cut t d l r) k s = go (or-iff (has l k) (has r k) .0 s) (leaf-of l k) (leaf-of r k)
+  where
+    go : So (has l k) ⊎ So (has r k) → (So (has l k) → (t : ℕ) × Part (leaf t k) l) → (So (has r k) → (t : ℕ) × Part (leaf t k) r)
+        → (s : ℕ) × Part (leaf s k) (cut t d l r)
+    go (inl s) f g = let (i, p) = f s in (i, in-left p)
+    go (inr s) f g = let (i, p) = g s in (i, in-right p)
+
+among-stands : {u : Tree} {ts : List Tree} → Among u ts → (k : ℕ) → So (has u k) → So (stands ts k)
+unfolding stands
+among-stands (here {t = t} {ts = ts} p) k s = or-iff (has t k) (stands ts k) .1 (inl (part-has p k s))
+among-stands (there {t = t} {ts = ts} a) k s = or-iff (has t k) (stands ts k) .1 (inr (among-stands a k s))
+
+-- "Each module stands once"
+pub module-once : {m : ℕ} {token : ℕ → Token} {n : ℕ} {ts : List Tree} → Reading m token n ts → (s t k : ℕ) → s < t → t < n
+    → token s ≡ Module k → token t ≡ Module k → ⊥
+unfolding has
+module-once {m} {token} r s t k h g a b = go (earlier r t g .reading)
+  where
+    go : {u : Tree} {us : List Tree} → Reading m token (suc t) (u ∷ us) → ⊥
+    go (module-read {k = j} r e l f) =
+        let q : k ≡ j = cc in
+        f (among-stands (node-among r s h) j (rw (node-module (node-is r s h) a) (eqb-iff j k .1 (sym q))))
+    go (cut-read r e) = let z : _≡_ {A = ℕ} 0 1 = cc in omega arith
+
+-- counting: one more number that passes is one more, and where as many pass as there are, each passes
+count-most : (n : ℕ) (f : ℕ → Bool) → count n f ≤ n
+unfolding count
+count-most zero f = le-refl 0
+count-most (suc n) f = go (know (f n)) (count-most n f)
+  where
+    go : So (f n) ⊎ (So (f n) → ⊥) → count n f ≤ n → count (suc n) f ≤ suc n
+    go (inl t) h = omega (arith, count-yes n f t)
+    go (inr t) h = omega (arith, count-no n f t)
+
+count-one : (k : ℕ) (f : ℕ → Bool) → (So (f k) → ⊥) → (n : ℕ) → count n (λ i. eqb i k || f i) ≡ count n f + min 1 (n - k)
+unfolding count
+count-one k f h zero = omega arith
+count-one k f h (suc n) = go (ℕ-discrete n k) (know (f n)) (count-one k f h n)
+  where
+    g : ℕ → Bool
+    g i = eqb i k || f i
+
+    go : Dec (n ≡ k) → So (f n) ⊎ (So (f n) → ⊥) → count n g ≡ count n f + min 1 (n - k)
+        → count (suc n) g ≡ count (suc n) f + min 1 (suc n - k)
+    go (yes e) s ih =
+        let a = count-yes n g (or-iff (eqb n k) (f n) .1 (inl (eqb-iff n k .1 e))) in
+        let b = count-no n f (λ t. h (rw e at t)) in omega arith
+    go (no e) (inl s) ih = let a = count-yes n g (or-iff (eqb n k) (f n) .1 (inr s)) in let b = count-yes n f s in omega arith
+    go (no e) (inr s) ih = let a = count-no n g (λ t. none (or-iff (eqb n k) (f n) .0 t)) in let b = count-no n f s in omega arith
+      where
+        none : So (eqb n k) ⊎ So (f n) → ⊥
+        none (inl t) = e (eqb-iff n k .0 t)
+        none (inr t) = s t
+
+count-all : (n : ℕ) (f : ℕ → Bool) → n ≤ count n f → (k : ℕ) → k < n → So (f k)
+count-all n f h k l = go (know (f k))
+  where
+    go : So (f k) ⊎ (So (f k) → ⊥) → So (f k)
+    go (inl t) = t
+    go (inr t) = let a = count-one k f t n in let b = count-most n (λ i. eqb i k || f i) in absurd (omega arith)
+
+count-none : (n : ℕ) → count n (λ i. false) ≡ 0
+unfolding count
+count-none zero = refl
+count-none (suc n) = count-none n
+
+unfoldable OnceAll : List Tree → Type 0
+OnceAll [] = Unit {0}
+OnceAll (t ∷ ts) = Once t × OnceAll ts × ((k : ℕ) → So (has t k) → So (stands ts k) → ⊥)
+
+-- n tokens and the things standing are twice as many as the modules standing, and these stand once each
+record Fair (m n : ℕ) (ts : List Tree) : Type 0 where
+  once : OnceAll ts
+  below : (k : ℕ) → So (stands ts k) → k < m
+  size : n + length ts ≡ 2 * count m (stands ts)
+
+fair : {m n : ℕ} {token : ℕ → Token} {ts : List Tree} → Reading m token n ts → Fair m n ts
+unfolding OnceAll Once stands has
+fair {m} none-read = record { once = tt; below = λ k t. absurd-so t; size = omega (arith, count-none m) }
+fair {m} (module-read {n = n} {k = k} {ts = ts} r e h f) = let F = fair r in record {
+  once = (tt, F .once, λ j s t. f (rw (← eqb-iff j k .0 s) t));
+  below = λ j t. low F j (or-iff (eqb j k) (stands ts j) .0 t);
+  size = omega (arith, F .size, count-one k (stands ts) f m);
+}
+  where
+    low : Fair m n ts → (j : ℕ) → So (eqb j k) ⊎ So (stands ts j) → j < m
+    low F j (inl s) = let q = eqb-iff j k .0 s in omega arith
+    low F j (inr s) = F .below j s
+fair {m} (cut-read {n = n} {d = d} {l = a} {r = b} {ts = ts} r e) = let F = fair r in let o = F .once in record {
+  once = ((o .1 .0, o .0, λ k s t. o .2 k t (or-iff (has a k) (stands ts k) .1 (inl s))), o .1 .1,
+    λ k s t. apart o k t (or-iff (has a k) (has b k) .0 s));
+  below = λ k t. F .below k (rw (same k) t);
+  size = let q = ap (count m) (fun-ext same) in omega (arith, F .size);
+}
+  where
+    same : (k : ℕ) → has b k || (has a k || stands ts k) ≡ (has a k || has b k) || stands ts k
+    same k = go (has a k) (has b k) (stands ts k)
+      where
+        go : (x y z : Bool) → y || (x || z) ≡ (x || y) || z
+        go true true z = refl
+        go true false z = refl
+        go false true z = refl
+        go false false z = refl
+
+    apart : OnceAll (b ∷ (a ∷ ts)) → (k : ℕ) → So (stands ts k) → So (has a k) ⊎ So (has b k) → ⊥
+    apart o k t (inl s) = o .1 .2 k s t
+    apart o k t (inr s) = o .2 k s (or-iff (has a k) (stands ts k) .1 (inr t))
+
+-- 2m-1 tokens that pass leave exactly one thing standing, and in it each module once
+pub one-stands : (m : ℕ) (token : ℕ → Token) (ts : List Tree) → 0 < m → standing m token (2 * m - 1) ≡ things ts
+    → (t : Tree) × (ts ≡ t ∷ []) × Once t × ((k : ℕ) → So (has t k) ↔ (k < m))
+unfolding OnceAll stands
+one-stands m token ts h e = alone ts (fair (was-read (2 * m - 1) ts e))
+  where
+    alone : (ts : List Tree) → Fair m (2 * m - 1) ts → (t : Tree) × (ts ≡ t ∷ []) × Once t × ((k : ℕ) → So (has t k) ↔ (k < m))
+    alone [] F = absurd (omega arith)
+    alone (t ∷ (u ∷ ts)) F = let q = count-most m (stands (t ∷ (u ∷ ts))) in absurd (omega arith)
+    alone (t ∷ []) F = (t, refl, F .once .0, λ k.
+        (λ s. F .below k (rw (alone-has (has t k)) s), λ l. rw (alone-has (has t k)) at (count-all m (stands (t ∷ [])) (omega arith) k l)))
+      where
+        alone-has : (b : Bool) → b || false ≡ b
+        alone-has true = refl
+        alone-has false = refl
+
+-- a design's tree test: 6 is never the answer
+pub modules-within : (d : Design) → So (withinLimits d) → (0 < d .modules) × (d .modules ≤ mostModules)
+unfolding withinLimits inRange
+modules-within d t = let s = simp test-iffs at t in (omega arith, omega arith)
+
+pub never-not-one-thing : (d : Design) (i : ℕ) → So (withinLimits d) → treeTest (standingOf d (nodes d)) ≡ Refused (NotOneThing i) → ⊥
+never-not-one-thing d i t e = go (standingOf d (nodes d)) refl e
+  where
+    go : (s : Standing) → standingOf d (nodes d) ≡ s → treeTest s ≡ Refused (NotOneThing i) → ⊥
+    go refused q e = let z : _≡_ {A = ℕ} 0 1 = cc in omega arith
+    go (things ts) q e =
+        let (u, w, o, x) = one-stands (d .modules) (tokenAt d) ts (modules-within d t .0) q in
+        let e' : Done ≡ Refused (NotOneThing i) = rw w at e in let z : _≡_ {A = ℕ} 0 1 = cc in omega arith
+
+-- a lawful design is within the limits, and one thing stands in the end
+pub lawful-iff : (d : Design) → LawfulDesign d ↔ (So (withinLimits d) × (standingOf d (nodes d) ≡ things (root d ∷ [])))
+unfolding valueTest
+lawful-iff d = (λ e. to (withinLimits d) refl e, λ t. rw (t .0, valueTest, t .1))
+  where
+    one : (s : Standing) → treeTest s ≡ Done → s ≡ things (last s ∷ [])
+    one refused e = let z : _≡_ {A = ℕ} 0 1 = cc in absurd (omega arith)
+    one (things []) e = let z : _≡_ {A = ℕ} 0 1 = cc in absurd (omega arith)
+    one (things (t ∷ [])) e = refl
+    one (things (t ∷ (u ∷ ts))) e = let z : _≡_ {A = ℕ} 0 1 = cc in absurd (omega arith)
+
+    to : (b : Bool) → withinLimits d ≡ b
+        → elim b as (λ _. Reply) [ true ↦ treeTest (standingOf d (nodes d)) | false ↦ Refused (BreaksLimits 0) ] ≡ Done
+        → So (withinLimits d) × (standingOf d (nodes d) ≡ things (root d ∷ []))
+    to true t e = (t, one (standingOf d (nodes d)) e)
+    to false t e = let z : _≡_ {A = ℕ} 0 1 = cc in absurd (omega arith)
+
+-- the tree of a lawful design
+pub record LawfulTree (d : Design) : Type 0 where
+  pub limits : So (withinLimits d)
+  pub reading : Reading (d .modules) (tokenAt d) (nodes d) (root d ∷ [])
+  pub once : Once (root d)
+  pub modules : (k : ℕ) → So (has (root d) k) ↔ (k < d .modules)
+
+pub lawful-tree : (d : Design) → LawfulDesign d → LawfulTree d
+lawful-tree d e =
+    let (t, s) = lawful-iff d .0 e in let (u, q, o, h) = one-stands (d .modules) (tokenAt d) (root d ∷ []) (modules-within d t .0) s in
+    let w : u ≡ root d = cc in
+    record { limits = t; reading = was-read (nodes d) (root d ∷ []) s; once = rw w at o; modules = rw w at h }
+
+only-among : {u t : Tree} → Among u (t ∷ []) → Part u t
+only-among (here p) = p
+
+-- the nodes of a lawful design are the parts of its root
+module _ (d : Design) (lawful : LawfulDesign d) where
+  pub node-at : (t : ℕ) → t < nodes d → Node (d .modules) (tokenAt d) t (nodeAt d t)
+  node-at t h = node-is (lawful-tree d lawful .reading) t h
+
+  pub node-part : (t : ℕ) → t < nodes d → Part (nodeAt d t) (root d)
+  node-part t h = only-among (node-among (lawful-tree d lawful .reading) t h)
+
+  pub part-node : (u : Tree) → Part u (root d) → (position u < nodes d) × (u ≡ nodeAt d (position u))
+  part-node u p = among-node (lawful-tree d lawful .reading) (here p)
+
+  -- each module has one token
+  pub module-token : (k : ℕ) → k < d .modules → (t : ℕ) × (t < nodes d) × (tokenAt d t ≡ Module k)
+  module-token k h =
+      let (t, p) = leaf-of (root d) k (lawful-tree d lawful .modules k .1 h) in let (b, q) = part-node (leaf t k) p in
+      (t, b, says t (rw q (node-at t b)))
+    where
+      says : (t : ℕ) → Node (d .modules) (tokenAt d) t (leaf t k) → tokenAt d t ≡ Module k
+      says t (is-leaf e h) = e
+
+  pub module-only : (k s t : ℕ) → s < nodes d → t < nodes d → tokenAt d s ≡ Module k → tokenAt d t ≡ Module k → s ≡ t
+  module-only k s t h g a b = go (decLt s t) (decLt t s)
+    where
+      go : Dec (s < t) → Dec (t < s) → s ≡ t
+      go (yes l) _ = absurd (module-once (lawful-tree d lawful .reading) s t k l g a b)
+      go (no l) (yes q) = absurd (module-once (lawful-tree d lawful .reading) t s k q h b a)
+      go (no l) (no q) = omega arith
+
+  pub root-position : suc (position (root d)) ≡ nodes d
+  root-position = last-position (lawful-tree d lawful .reading)
+
+  -- what holds of each node holds of each part of the root, and back
+  pub by-nodes : (P : Tree → Type 0) → ((u : Tree) → Part u (root d) → P u) ↔ ((t : ℕ) → t < nodes d → P (nodeAt d t))
+  by-nodes P = (λ f t h. f (nodeAt d t) (node-part t h), λ f u p. let (h, q) = part-node u p in rw q (f (position u) h))
+
+-- the cut at the top of a tree is kept
+abbrev pub KeptAt : Placement → Tree → Type 0
+KeptAt p (leaf t k) = Unit {0}
+KeptAt p (cut t d l r) = Kept d l r p
+
+top-kept : (t : Tree) (p : Placement) → Follows t p → KeptAt p t
+unfolding Follows
+top-kept (leaf t k) p f = tt
+top-kept (cut t d l r) p f = f .2
+
+part-kept : {u t : Tree} → Part u t → (p : Placement) → Follows t p → KeptAt p u
+unfolding Follows
+part-kept {u} whole p f = top-kept u p f
+part-kept (in-left q) p f = part-kept q p (f .0)
+part-kept (in-right q) p f = part-kept q p (f .1)
+
+parts-follow : (t : Tree) (p : Placement) → ((u : Tree) → Part u t → KeptAt p u) → Follows t p
+unfolding Follows
+parts-follow (leaf t k) p f = tt
+parts-follow (cut t d l r) p f =
+    (parts-follow l p (λ u q. f u (in-left q)), parts-follow r p (λ u q. f u (in-right q)), f (cut t d l r) whole)
+
+-- a placement follows a lawful design's tree exactly if it keeps the cut at each node
+pub follows-by-nodes : (d : Design) → LawfulDesign d → (p : Placement)
+    → Follows (root d) p ↔ ((t : ℕ) → t < nodes d → KeptAt p (nodeAt d t))
+follows-by-nodes d e p =
+    let b = by-nodes d e (KeptAt p) in (λ f. b .0 (λ u q. part-kept q p f), λ f. parts-follow (root d) p (b .1 f))
