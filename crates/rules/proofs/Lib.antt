@@ -10,3 +10,4 @@ pub mod Pairing
 pub mod Choosing
 pub mod Descending
 pub mod Planning
+pub mod Floorplans
