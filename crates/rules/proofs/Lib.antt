@@ -11,3 +11,6 @@ pub mod Choosing
 pub mod Descending
 pub mod Planning
 pub mod Floorplans
+pub mod Changing
+pub mod Relisting
+pub mod Working

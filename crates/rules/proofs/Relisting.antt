@@ -1,0 +1,111 @@
+-- An edit's relisting. Off the way nothing changed, so the old bytes are the new design's lists; on the way a leaf is listed from
+-- its need and a cut from its children's new lists, whose undominated pairings are its list. And what the relisting leaves is
+-- fixed, whatever the bytes before, since pairings hang on the children's bytes alone. Assumes nothing.
+use mathlib.Core.Path.{_≡_, refl, sym, _∙_, ap}
+use mathlib.Core.Logic.{_⊎_, inl, inr, ⊎-elim, _↔_}
+use mathlib.Core.List.{List}
+use mathlib.Core.Bool.{So}
+use Prim.Native.Nat.{ℕ, suc, _+_, _-_, _≤_, _<_}
+use native.Mathlib.Omega.{arith}
+use Rattle.rules.specs.declared.Corner.{Corner}
+use Rattle.rules.specs.declared.Shape.{Shape}
+use Rattle.rules.specs.declared.Rectangle.{Rectangle}
+use Rattle.rules.specs.declared.Direction.{Direction}
+use Rattle.rules.specs.declared.Design.{Design}
+use Rattle.rules.specs.declared.Edit.{Edit}
+use Rattle.rules.specs.declared.Edit.the-variants.{Need, Turn}
+use Rattle.rules.specs.Chip.{Suits}
+use Rattle.rules.specs.Tree.{Tree, leaf, cut, has, spans, position}
+use Rattle.rules.specs.Shape.{Realizes, ShapeAt, Undominated, Dominates}
+use Rattle.rules.specs.Slot.{slot, Stores, CornerOn, IsListOf, FullLists}
+use Rattle.rules.specs.Choice.{Pair, beside}
+use Rattle.rules.specs.Edit.{namesPlace, changed, changedNode, Paired, Relists, Relisted, EditedLists}
+use Rattle.rules.specs.Design.{LawfulDesign, OwnLists, SuitsOf, chipOf, needAt, nodeAt, nodes, root}
+use Rattle.rules.specs.Test.{Test}
+use Rattle.rules.proofs.Searching.{know, or-iff, eqb-iff}
+use Rattle.rules.proofs.Standing.{Part, whole, in-left, in-right, part-node, node-part, node-at, node-position}
+use Rattle.rules.proofs.Fitting.{Decides}
+use Rattle.rules.proofs.Suiting.{design-decides}
+use Rattle.rules.proofs.Listing.{list-unique}
+use Rattle.rules.proofs.Pairing.{ListsAt, pairings-list-the-cut}
+use Rattle.rules.proofs.Changing.{Alike, alike-off, alike-spans, edit-lawful, edit-nodes, edit-keeps}
+
+-- a list of some shapes, in other bytes that agree with it, of other shapes that are the same
+pub same-undominated : {P Q : Shape → Type 0} → ((s : Shape) → P s ↔ Q s) → (s : Shape) → Undominated P s → Undominated Q s
+same-undominated e s u = record { is = e s .0 (u .is); alone = λ o q d. u .alone o (e o .1 q) d }
+
+pub same-stores : (W : ℕ) (g g' : ℕ → ℕ) → ((j : ℕ) → j < W → g j ≡ g' j) → (s : Shape) → Stores W g s → Stores W g' s
+same-stores W g g' e s z =
+    let p = z .wide in let q = z .within in
+    record { wide = p; within = q; high = z .high; byte = sym (e (s .w .0 - 1) (omega arith)) ∙ z .byte }
+
+pub same-list : (W : ℕ) (g g' : ℕ → ℕ) {P Q : Shape → Type 0} → ((j : ℕ) → j < W → g j ≡ g' j) → ((s : Shape) → P s ↔ Q s) → IsListOf W g P → IsListOf W g' Q
+same-list W g g' e f l s = (
+  λ z. same-undominated f s (l s .0 (same-stores W g' g (λ j h. sym (e j h)) s z)),
+  λ u. same-stores W g g' e s (l s .1 (same-undominated (λ o. (f o .1, f o .0)) s u)),
+)
+
+-- a tree's shapes hang on what suits its own modules
+pub realizes-same : (W H : ℕ) {S S' : ℕ → Rectangle → Type 0} (t : Tree) → ((k : ℕ) (r : Rectangle) → So (has t k) → S k r → S' k r)
+    → (r : Rectangle) → Realizes W H S t r → Realizes W H S' t r
+unfolding Realizes has
+realizes-same W H (leaf t k) f r (o, s) = (o, f k r (eqb-iff k k .1 refl) s)
+realizes-same W H (cut t d l r) f b (p, q, x, y, o, e) =
+    (p, q, realizes-same W H l (λ k b i. f k b (or-iff (has l k) (has r k) .1 (inl i))) p x,
+    realizes-same W H r (λ k b i. f k b (or-iff (has l k) (has r k) .1 (inr i))) q y, o, e)
+
+-- a cut's children are parts of whatever it is a part of
+pub part-left : {t : ℕ} {d : Direction} {l r v : Tree} → Part (cut t d l r) v → Part l v
+part-left whole = in-left whole
+part-left (in-left q) = in-left (part-left q)
+part-left (in-right q) = in-right (part-left q)
+
+pub part-right : {t : ℕ} {d : Direction} {l r v : Tree} → Part (cut t d l r) v → Part r v
+part-right whole = in-right whole
+part-right (in-left q) = in-left (part-right q)
+part-right (in-right q) = in-right (part-right q)
+
+module _ {W H : ℕ} (S : ℕ → Rectangle → Type 0) {S' : ℕ → Rectangle → Type 0} {F : ℕ → Test} (dec : Decides W H S' F)
+    (node node' : ℕ → Tree) (n p : ℕ) (tree : Tree)
+    (parts : (u : Tree) → Part u tree → (position u < n) × (u ≡ node' (position u)))
+    (off : (t : ℕ) → t < n → (So (spans (node' t) p) → ⊥) → (c : Corner) (s : Shape) → ShapeAt W H S (node t) c s ↔ ShapeAt W H S' (node' t) c s)
+    (work work' : List ℕ) (own : FullLists W H S node n work) (rel : Relisted W H S' node' n p work work') where
+  -- the slots of a part off the way are its lists still
+  kept-lists : (u : Tree) → Part u tree → (So (spans u p) → ⊥) → ListsAt W H S' (slot W H work' (position u)) u
+  kept-lists u q o c on =
+      let (h, e) = parts u q in let o' : So (spans (node' (position u)) p) → ⊥ = rw e at o in
+      rw (← e) at (same-list W _ (slot W H work' (position u) c) (λ j k. sym (rel .off (position u) c h on o' j k)) (off (position u) h o' c) (own (position u) c h on))
+
+  -- the slots of a part on the way are the list of what it is relisted from
+  made-lists : (u : Tree) → Part u tree → So (spans u p) → (c : Corner) → CornerOn W H c → IsListOf W (slot W H work' (position u) c) (Relists W H S' work' u c)
+  made-lists u q i c on = let (h, e) = parts u q in rw (← e) at (rel .way (position u) c h on (rw e at i))
+
+  -- every part's slots are its lists, child before parent
+  relisted-lists : (u : Tree) → Part u tree → ListsAt W H S' (slot W H work' (position u)) u
+  relisted-lists (leaf t k) q = ⊎-elim (made-lists (leaf t k) q) (kept-lists (leaf t k) q) (know (spans (leaf t k) p))
+  relisted-lists (cut t d l r) q =
+      let x = relisted-lists l (part-left q) in let y = relisted-lists r (part-right q) in
+      ⊎-elim
+      (λ i c on s. let m = made-lists (cut t d l r) q i c on s in
+        let u = pairings-list-the-cut dec t d l r (slot W H work' (position l)) (slot W H work' (position r)) x y c s in (λ z. u .0 (m .0 z), λ z. m .1 (u .1 z)))
+      (kept-lists (cut t d l r) q) (know (spans (cut t d l r) p))
+
+-- off the way the two designs' shapes are the same
+off-same : (d d' : Design) (p : ℕ) (u u' : Tree) → chipOf d' ≡ chipOf d → Alike p d d' u u' → (So (spans u' p) → ⊥)
+    → (c : Corner) (s : Shape) → ShapeAt (d .width .0) (d .height .0) (SuitsOf d) u c s ↔ ShapeAt (d .width .0) (d .height .0) (SuitsOf d') u' c s
+off-same d d' p u u' ec a o c s =
+    let (e, f) = alike-off a (λ i. o (rw (alike-spans a p) at i)) in
+    (λ z. rw (← e) (realizes-same (d .width .0) (d .height .0) u (λ k r i x. rw (ec, ← f k i) x) _ z),
+    λ z. realizes-same (d .width .0) (d .height .0) u (λ k r i x. rw (← ec, f k i) x) _ (rw (← e) at z))
+
+-- relisting the way from an edited node to the root turns own lists of the old design into own lists of the new one
+pub relisted-own : (d : Design) (e : Edit) → LawfulDesign d → So (namesPlace d e) → (work work' : List ℕ) → OwnLists d work → EditedLists d e work work'
+    → OwnLists (changed d e) work'
+unfolding changed
+relisted-own d e lawful names work work' own rel =
+    let d' = changed d e in let p = changedNode d e in let lawful' = edit-lawful d lawful e names in let k = edit-keeps d e in
+    let kw : d' .width .0 ≡ d .width .0 = ap (λ w. w .0) (k .width) in let kh : d' .height .0 ≡ d .height .0 = ap (λ h. h .0) (k .height) in
+    let lists = relisted-lists (SuitsOf d) (rw (kw, kh) at (design-decides d')) (nodeAt d) (nodeAt d') (nodes d) p (root d')
+        (λ u q. let (h, r) = part-node d' lawful' u q in (rw (k .nodes-same) at h, r))
+        (λ t h o. off-same d d' p (nodeAt d t) (nodeAt d' t) (k .chip) (edit-nodes d lawful e names t h) o) work work' own rel in
+    rw (kw, kh) (λ t c h on. rw (node-position (node-at d' lawful' t h)) at (lists (nodeAt d' t) (node-part d' lawful' t h) c on))
