@@ -15,17 +15,16 @@ use Rattle.rules.specs.declared.Direction.the-variants.{Vertical, Horizo
 use Rattle.rules.specs.declared.Token.{Token}
 use Rattle.rules.specs.declared.Token.the-variants.{Cut, Module, Beyond}
 use Rattle.rules.specs.declared.Design.{Design}
-use Rattle.rules.specs.declared.Need.{Need as Amounts}
+use Rattle.rules.specs.declared.Need.{Need}
 use Rattle.rules.specs.declared.Edit.{Edit}
-use Rattle.rules.specs.declared.Edit.the-variants.{Need, Turn}
+use Rattle.rules.specs.declared.Edit.the-variants.{Change, Turn}
 use Rattle.rules.specs.Search.{least}
 use Rattle.rules.specs.Tree.{Tree, leaf, cut, position, has, spans, tokenOf, stands, things}
-use Rattle.rules.specs.Design.{mostModules, noNeed, needAt, tokenAt, nodes, lawfulNeed, withinLimits, chipOf}
-use Rattle.rules.specs.Design.{standingOf, nodeAt, root, LawfulDesign}
+use Rattle.rules.specs.Design.{mostModules, noNeed, needAt, tokenAt, nodes, lawfulNeed, withinLimits, chipOf, standingOf, nodeAt, root, LawfulDesign}
 use Rattle.rules.specs.Edit.{namesPlace, changed, changedNode}
 use Rattle.rules.proofs.Searching.{and-iff, eqb-iff, or-iff, any-iff, all-iff, least-found, test-iffs}
 use Rattle.rules.proofs.Standing.{Reading, none-read, module-read, cut-read, read-stands, last-is, earlier}
-use Rattle.rules.proofs.Standing.{modules-within, lawful-iff, lawful-tree, module-token, module-only}
+use Rattle.rules.proofs.Nodes.{modules-within, lawful-iff, lawful-tree, module-token, module-only}
 
 -- two trees that are alike but for what stands at position p
 pub data Alike (p : ℕ) (d d' : Design) : Tree → Tree → Type 0 where
@@ -150,7 +149,7 @@ pub record Keeps (d d' : Design) : Type 0 where
 
 pub edit-keeps : (d : Design) (e : Edit) → Keeps d (changed d e)
 unfolding changed chipOf
-edit-keeps d (Need k n) = record { width = refl; height = refl; block = refl; kinds = refl; modules = refl; nodes-same = refl; chip = refl }
+edit-keeps d (Change k n) = record { width = refl; height = refl; block = refl; kinds = refl; modules = refl; nodes-same = refl; chip = refl }
 edit-keeps d (Turn t) = record { width = refl; height = refl; block = refl; kinds = refl; modules = refl; nodes-same = refl; chip = refl }
 
 module _ (d : Design) (lawful : LawfulDesign d) where
@@ -165,13 +164,13 @@ module _ (d : Design) (lawful : LawfulDesign d) where
 
   pub changed-node : (e : Edit) → So (namesPlace d e) → changedNode d e < nodes d
   unfolding changedNode namesPlace
-  changed-node (Need k n) s = let (h, l) = simp test-iffs at s in module-place k h .0
+  changed-node (Change k n) s = let (h, l) = simp test-iffs at s in module-place k h .0
   changed-node (Turn t) s = let (h, l) = simp test-iffs at s in h
 
   -- the tokens and the needs that an edit leaves are alike
   pub edit-alike : (e : Edit) → So (namesPlace d e) → AlikeDesigns (changedNode d e) d (changed d e)
   unfolding changed changedNode namesPlace
-  edit-alike (Need k n) s = record {
+  edit-alike (Change k n) s = record {
     count = refl;
     modules = λ t j e. e;
     turned = λ t c e. (c, e, λ _. refl);
@@ -179,7 +178,7 @@ module _ (d : Design) (lawful : LawfulDesign d) where
   }
     where
       stays : (t j : ℕ) → t < nodes d → tokenAt d t ≡ Module j → (least (λ t. eqb (getD (d .tokens) t 0) (k + 2)) (nodes d) 0 ≡ t → ⊥)
-          → {v : Amounts} → AfterSet (d .needs) k j n noNeed v → needAt d j ≡ v
+          → {v : Need} → AfterSet (d .needs) k j n noNeed v → needAt d j ≡ v
       stays t j h e o (kept q) = sym q
       stays t j h e o (new q w) =
           let (b, l) = simp test-iffs at s in let (i, x) = module-place k b in absurd (o (module-only d lawful k _ t i h x (rw q e)))
@@ -207,12 +206,12 @@ module _ (d : Design) (lawful : LawfulDesign d) where
 
   edit-limits : (e : Edit) → So (namesPlace d e) → So (withinLimits (changed d e))
   unfolding changed namesPlace withinLimits
-  edit-limits (Need k n) s =
+  edit-limits (Change k n) s =
       let t = simp and-iff at (lawful-tree d lawful .limits) in
       simp and-iff (t .0, all-iff (d .modules) (λ j. lawfulNeed (getD (set (d .needs) k n) j noNeed)) .1 (λ j h.
         still j (all-iff (d .modules) (λ j. lawfulNeed (needAt d j)) .0 (t .1) j h) (after-set (d .needs) k j n noNeed)))
     where
-      still : (j : ℕ) → So (lawfulNeed (needAt d j)) → {v : Amounts} → AfterSet (d .needs) k j n noNeed v → So (lawfulNeed v)
+      still : (j : ℕ) → So (lawfulNeed (needAt d j)) → {v : Need} → AfterSet (d .needs) k j n noNeed v → So (lawfulNeed v)
       still j t (kept q) = rw q t
       still j t (new q w) = rw w (and-iff (ltb k (d .modules)) (lawfulNeed n) .0 s .1)
   edit-limits (Turn p) s = lawful-tree d lawful .limits
@@ -236,7 +235,7 @@ pub record Sized (d : Design) : Type 0 where
 
 pub edit-sized : (d : Design) (e : Edit) → Sized d → Sized (changed d e)
 unfolding changed
-edit-sized d (Need k n) z = record { needs = rw length-set (z .needs); tokens = z .tokens }
+edit-sized d (Change k n) z = record { needs = rw length-set (z .needs); tokens = z .tokens }
 edit-sized d (Turn t) z = record { needs = z .needs; tokens = rw length-set (z .tokens) }
 
 abbrev pub other : Direction → Direction
@@ -244,18 +243,18 @@ other Vertical = Horizontal
 other Horizontal = Vertical
 
 -- "granted, it makes that one change": the need of module k, and no other
-pub need-changed : (d : Design) → LawfulDesign d → Sized d → (k : ℕ) (n : Amounts) → So (namesPlace d (Need k n))
-    → needAt (changed d (Need k n)) k ≡ n
+pub need-changed : (d : Design) → LawfulDesign d → Sized d → (k : ℕ) (n : Need) → So (namesPlace d (Change k n))
+    → needAt (changed d (Change k n)) k ≡ n
 unfolding changed namesPlace
 need-changed d e z k n s =
     let (h, l) = simp test-iffs at s in let (a, b) = modules-within d (lawful-tree d e .limits) in
     getD-set-same (d .needs) k n noNeed (omega arith)
 
-pub needs-kept : (d : Design) (k : ℕ) (n : Amounts) (j : ℕ) → (j ≡ k → ⊥) → needAt (changed d (Need k n)) j ≡ needAt d j
+pub needs-kept : (d : Design) (k : ℕ) (n : Need) (j : ℕ) → (j ≡ k → ⊥) → needAt (changed d (Change k n)) j ≡ needAt d j
 unfolding changed
 needs-kept d k n j o = getD-set-other (d .needs) k j n noNeed o
 
-pub tokens-of-need : (d : Design) (k : ℕ) (n : Amounts) → changed d (Need k n) .tokens ≡ d .tokens
+pub tokens-of-need : (d : Design) (k : ℕ) (n : Need) → changed d (Change k n) .tokens ≡ d .tokens
 unfolding changed
 tokens-of-need d k n = refl
 

@@ -3,10 +3,10 @@
 use mathlib.Core.Path.{_≡_, refl, sym, _∙_, ap}
 use mathlib.Core.Logic.{_⊎_, inl, inr, _↔_}
 use mathlib.Core.Bool.{Bool, true, false, So}
-use Prim.Native.Nat.{ℕ, zero, suc, _+_, _-_, _*_, _≤_, _<_, max}
+use Prim.Native.Nat.{ℕ, zero, suc, _-_, _*_, _≤_, _<_}
 use native.Mathlib.Omega.{arith}
-use native.Mathlib.Nat.{le-refl, le-trans}
-use native.Mathlib.Decide.{decLe, decLt, ℕ-discrete}
+use native.Mathlib.Nat.{le-refl}
+use native.Mathlib.Decide.{ℕ-discrete}
 use lib.Dec.{ltb}
 use borrow.Author.Tests.{ltb-true, ltb-false}
 use Rattle.rules.specs.declared.Corner.{Corner}
@@ -14,11 +14,10 @@ use Rattle.rules.specs.declared.Shape.{Shape}
 use Rattle.rules.specs.declared.Direction.{Direction}
 use Rattle.rules.specs.Search.{any, least}
 use Rattle.rules.specs.Chip.{shape}
-use Rattle.rules.specs.Placement.{area}
-use Rattle.rules.specs.Slot.{Stores, CornerOn}
-use Rattle.rules.specs.Choice.{Chosen, Pair, Taken, beside, pairing}
+use Rattle.rules.specs.Slot.{Stores}
+use Rattle.rules.specs.Choice.{Chosen, Pair, Taken, beside}
 use Rattle.rules.specs.Test.{better, bestWidth, meets, leftIndex, leftShape, rightIndex, rightShape, hasPair}
-use Rattle.rules.proofs.Searching.{absurd-so, test-iffs, any-iff, least-is, least-found}
+use Rattle.rules.proofs.Searching.{test-iffs, any-iff, least-is, least-found}
 use Rattle.rules.proofs.Listing.{same-shape}
 
 -- what the search over the first n bytes has found: w is 0 and there is no shape, or w is the width of the best

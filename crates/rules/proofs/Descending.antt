@@ -2,10 +2,10 @@
 -- lawful placement inside the shape that was asked; over a design's own lists going down never fails. Assumes nothing.
 use mathlib.Core.Path.{_≡_, refl, sym, _∙_, ap}
 use mathlib.Core.Logic.{_⊎_, inl, inr, _↔_}
-use mathlib.Core.Bool.{Bool, So, _&&_, _||_}
-use Prim.Native.Nat.{ℕ, suc, _+_, _-_, _≤_, _<_, max}
+use mathlib.Core.Bool.{Bool, So, _&&_}
+use Prim.Native.Nat.{ℕ, _+_, _-_, _≤_, max}
 use native.Mathlib.Omega.{arith}
-use native.Mathlib.Nat.{le-refl, le-trans}
+use native.Mathlib.Nat.{le-refl}
 use native.Mathlib.Decide.{decLe}
 use borrow.Author.Tests.{eqb-true, eq-eqb}
 use Rattle.rules.specs.declared.Corner.{Corner}
@@ -18,12 +18,12 @@ use Rattle.rules.specs.Tree.{Tree, leaf, cut, has, position}
 use Rattle.rules.specs.Placement.{Placement, Follows}
 use Rattle.rules.specs.Shape.{Realizes, Listed}
 use Rattle.rules.specs.Slot.{Stores, CornerOn, Stair}
-use Rattle.rules.specs.Choice.{Taken, Down, beside, pairing}
-use Rattle.rules.specs.Test.{Test, across, leftShape, rightShape, hasPair, goesDown, laid, merge}
+use Rattle.rules.specs.Choice.{Down, beside, pairing}
+use Rattle.rules.specs.Test.{Test, leftShape, rightShape, hasPair, goesDown, laid, merge}
 use Rattle.rules.proofs.Searching.{or-iff, and-iff}
 use Rattle.rules.proofs.Fitting.{Decides}
 use Rattle.rules.proofs.Standing.{Once, Part, whole, in-left, in-right}
-use Rattle.rules.proofs.Placing.{Inside, PlacedIn, wider, both-placed, merge-left, merge-right}
+use Rattle.rules.proofs.Placing.{PlacedIn, wider, both-placed, merge-left, merge-right}
 use Rattle.rules.proofs.Pairing.{ListsAt, pairings-list-the-cut}
 use Rattle.rules.proofs.Choosing.{takes, taken-once, pair-found}
 

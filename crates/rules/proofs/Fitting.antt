@@ -1,23 +1,21 @@
 -- Shapes and placements are rooms that fit. A tree's shapes, bounding boxes of shapes of its children anywhere on the chip, are
 -- exactly the rooms that lines part down to rooms for its modules; and such a room is one in which a lawful placement lies.
 -- All of it over what a leaf asks. Assumes nothing.
-use mathlib.Core.Path.{_≡_, refl, sym, ap}
-use mathlib.Core.Logic.{_⊎_, inl, inr, _↔_}
-use mathlib.Core.Bool.{Bool, true, false, So, _||_}
-use Prim.Native.Nat.{ℕ, _+_, _-_, _≤_, _<_, min, max}
+use mathlib.Core.Path.{_≡_, ap}
+use mathlib.Core.Logic.{_↔_}
+use mathlib.Core.Bool.{So}
+use Prim.Native.Nat.{ℕ, _+_, _-_, _≤_, min, max}
 use native.Mathlib.Omega.{arith}
-use native.Mathlib.Nat.{le-refl, le-trans}
-use borrow.Author.Tests.{eqb-true, eq-eqb}
+use native.Mathlib.Nat.{le-refl}
 use Rattle.rules.specs.declared.Direction.{Direction}
 use Rattle.rules.specs.declared.Direction.the-variants.{Vertical, Horizontal}
 use Rattle.rules.specs.declared.Rectangle.{Rectangle}
 use Rattle.rules.specs.Chip.{OnChip, rectangle, left, right, bottom, top}
-use Rattle.rules.specs.Tree.{Tree, leaf, cut, has}
-use Rattle.rules.specs.Placement.{Placement, begins, ends, Kept, Follows, Lawful, furthest}
+use Rattle.rules.specs.Tree.{Tree, leaf, cut}
+use Rattle.rules.specs.Placement.{begins, ends}
 use Rattle.rules.specs.Shape.{Realizes, bounding}
-use Rattle.rules.specs.Test.{Test, turn, across, parted, fits, room}
-use Rattle.rules.proofs.Searching.{absurd-so, or-iff, know}
-use Rattle.rules.proofs.Rooms.{Growing, turn-growing, parted-in, joined, joined-growing, joined-in, joined-out}
+use Rattle.rules.specs.Test.{Test, parted, fits, room}
+use Rattle.rules.proofs.Rooms.{Growing, turn-growing, parted-in, joined, joined-growing, joined-out}
 
 -- two rectangles with the same sides are the same
 pub same-sides : (r o : Rectangle) → left r ≡ left o → bottom r ≡ bottom o → right r ≡ right o → top r ≡ top o → r ≡ o

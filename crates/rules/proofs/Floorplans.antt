@@ -1,17 +1,17 @@
 -- The planner's promise for a design: over its own lists the floorplan chosen is lawful, shares no cell and has the least box,
 -- or there is no lawful placement; over any stairs what goes down is lawful. Assumes nothing.
-use mathlib.Core.Path.{_≡_, refl, sym, _∙_, ap}
+use mathlib.Core.Path.{_≡_}
 use mathlib.Core.Logic.{_⊎_, inl, inr, ⊎-elim, _↔_}
 use mathlib.Core.List.{List}
 use mathlib.Core.Bool.{So}
-use Prim.Native.Nat.{ℕ, suc, _+_, _-_, _≤_, _<_}
+use Prim.Native.Nat.{ℕ, _+_, _-_, _≤_}
 use native.Mathlib.Omega.{arith}
 use Rattle.rules.specs.declared.Corner.{Corner}
 use Rattle.rules.specs.declared.Shape.{Shape}
 use Rattle.rules.specs.declared.Rectangle.{Rectangle}
 use Rattle.rules.specs.declared.Design.{Design}
-use Rattle.rules.specs.Chip.{corner, shape, holds}
-use Rattle.rules.specs.Tree.{Tree, position}
+use Rattle.rules.specs.Chip.{corner, holds}
+use Rattle.rules.specs.Tree.{position}
 use Rattle.rules.specs.Placement.{Placement, ShareNoCell, box, area}
 use Rattle.rules.specs.Shape.{Listed}
 use Rattle.rules.specs.Slot.{slot, Stores, CornerOn, Stair, Stairs}
@@ -19,9 +19,10 @@ use Rattle.rules.specs.Choice.{Chosen, Down}
 use Rattle.rules.specs.Design.{LawfulDesign, LawfulPlacement, OwnLists, SuitsOf, chipOf, needAt, nodeAt, nodes, root, inRange, withinLimits}
 use Rattle.rules.specs.Check.{isSuited}
 use Rattle.rules.specs.Test.{laid}
-use Rattle.rules.proofs.Searching.{and-iff, test-iffs}
-use Rattle.rules.proofs.Standing.{LawfulTree, lawful-tree, Part, whole, part-node, root-position, node-at, node-position, by-nodes}
-use Rattle.rules.proofs.Suiting.{design-decides, at-most-decided}
+use Rattle.rules.proofs.Searching.{test-iffs}
+use Rattle.rules.proofs.Nodes.{lawful-tree, root-position, node-at, by-nodes}
+use Rattle.rules.proofs.Standing.{whole, node-position}
+use Rattle.rules.proofs.Suiting.{design-decides, at-most-iff}
 use Rattle.rules.proofs.Placing.{PlacedIn}
 use Rattle.rules.proofs.Pairing.{ListsAt}
 use Rattle.rules.proofs.Choosing.{Empty, chooses}
@@ -51,7 +52,7 @@ unfolding withinLimits inRange
 corner-zero d lawful = let h = simp test-iffs at (lawful-tree d lawful .limits) in record { column = h .0 .0 .0 .0 .0 .0; row = h .0 .0 .0 .0 .1 .0 }
 
 suited-decides : (d : Design) (k : ℕ) (r : Rectangle) → SuitsOf d k r ↔ So (isSuited d k r)
-suited-decides d k r = at-most-decided (needAt d k) (holds (chipOf d) r)
+suited-decides d k r = let e = at-most-iff (needAt d k) (holds (chipOf d) r) in (e .1, e .0)
 
 module _ (d : Design) (lawful : LawfulDesign d) (work : List ℕ) where
   own-every : OwnLists d work → Every (λ u. ListsAt (d .width .0) (d .height .0) (SuitsOf d) (slotsOf d work (position u)) u) (root d)

@@ -1,6 +1,7 @@
 -- What follows from the rules. A reader who trusts the checker need not read further than the statements.
 pub mod Searching
 pub mod Standing
+pub mod Nodes
 pub mod Rooms
 pub mod Fitting
 pub mod Suiting
@@ -11,6 +12,7 @@ pub mod Choosing
 pub mod Descending
 pub mod Planning
 pub mod Floorplans
+pub mod Checking
 pub mod Changing
 pub mod Relisting
 pub mod Working

@@ -1,6 +1,6 @@
 -- The bytes of a list. For each width the least height, where it is less than for the width before, is the height of the listed
 -- shape of that width; so the computed bytes are the list, and they are the only ones. Assumes nothing.
-use mathlib.Core.Path.{_≡_, refl, sym, _∙_, ap}
+use mathlib.Core.Path.{_≡_, refl, sym, ap}
 use mathlib.Core.Logic.{_↔_}
 use mathlib.Core.Bool.{Bool, true, false, So}
 use Prim.Native.Nat.{ℕ, suc, _+_, _-_, _≤_, _<_}
@@ -13,12 +13,12 @@ use Rattle.rules.specs.declared.Corner.{Corner}
 use Rattle.rules.specs.declared.Shape.{Shape}
 use Rattle.rules.specs.declared.Rectangle.{Rectangle}
 use Rattle.rules.specs.Search.{least}
-use Rattle.rules.specs.Chip.{shape, rectangle}
+use Rattle.rules.specs.Chip.{shape}
 use Rattle.rules.specs.Tree.{Tree}
 use Rattle.rules.specs.Shape.{ShapeAt, Dominates, Undominated, Listed}
 use Rattle.rules.specs.Slot.{Stores, IsListOf}
 use Rattle.rules.specs.Test.{Test, fits, lowest, listByte, onlyIf}
-use Rattle.rules.proofs.Searching.{absurd-so, least-is}
+use Rattle.rules.proofs.Searching.{least-is}
 use Rattle.rules.proofs.Rooms.{Rel, Rising, rising, Minimal, Passes, minimal-below}
 use Rattle.rules.proofs.Fitting.{Decides, fits-growing, realizes-fits}
 

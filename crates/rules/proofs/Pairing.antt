@@ -1,26 +1,24 @@
 -- Pairings of stored shapes. Over any bytes the test below computes the slot of the undominated pairings that fit on the chip;
 -- over lists of the two children it is the cut's own list, by lemma 2. Assumes nothing.
-use mathlib.Core.Path.{_≡_, refl, sym, _∙_, ap}
+use mathlib.Core.Path.{_≡_, refl, ap}
 use mathlib.Core.Logic.{_↔_}
-use mathlib.Core.Bool.{_&&_, So}
+use mathlib.Core.Bool.{So}
 use Prim.Native.Nat.{ℕ, suc, _+_, _-_, _≤_, _<_, max}
 use native.Mathlib.Omega.{arith}
-use native.Mathlib.Nat.{le-refl}
 use Rattle.rules.specs.declared.Corner.{Corner}
 use Rattle.rules.specs.declared.Shape.{Shape}
 use Rattle.rules.specs.declared.Rectangle.{Rectangle}
 use Rattle.rules.specs.declared.Direction.{Direction}
 use Rattle.rules.specs.declared.Direction.the-variants.{Vertical, Horizontal}
 use Rattle.rules.specs.Chip.{corner, shape}
-use Rattle.rules.specs.Tree.{Tree, leaf, cut}
+use Rattle.rules.specs.Tree.{Tree, cut}
 use Rattle.rules.specs.Shape.{ShapeAt, Undominated, Listed}
 use Rattle.rules.specs.Slot.{Stores, CornerOn, IsListOf}
-use Rattle.rules.specs.Choice.{Pair, beside, pairing}
+use Rattle.rules.specs.Choice.{pairing}
 use Rattle.rules.specs.Edit.{Paired}
-use Rattle.rules.specs.Search.{any}
 use Rattle.rules.specs.Test.{Test, Grid, turn, across, fits, listByte, stored, sideBySide, pairTest}
-use Rattle.rules.proofs.Searching.{test-iffs, search-iffs, and-iff, any-iff}
-use Rattle.rules.proofs.Rooms.{Rel, Passes, Rising, Minimal, same-minimal, turn-minimal, Beside, Lists, Pairings, lemma-2}
+use Rattle.rules.proofs.Searching.{test-iffs, search-iffs}
+use Rattle.rules.proofs.Rooms.{Passes, Rising, Minimal, same-minimal, turn-minimal, Beside, Lists, Pairings, lemma-2}
 use Rattle.rules.proofs.Fitting.{Decides, fits-growing}
 use Rattle.rules.proofs.Listing.{same-shape, bytes-minimal, minimal-undominated, minimal-listed}
 

@@ -1,22 +1,22 @@
 -- A room has place for a tree exactly if a lawful placement of it lies there. One way the cut's line is drawn where the left
 -- child's rectangles end; the other way the two halves' placements are merged, since no module stands twice.
 -- Assumes nothing.
-use mathlib.Core.Path.{_≡_, refl, sym, ap}
-use mathlib.Core.Logic.{_⊎_, inl, inr, _↔_}
+use mathlib.Core.Path.{_≡_, refl, sym}
+use mathlib.Core.Logic.{_⊎_, inl, inr}
 use mathlib.Core.Bool.{Bool, true, false, So, _||_}
-use Prim.Native.Nat.{ℕ, _*_, _≤_, _<_, max}
+use Prim.Native.Nat.{ℕ, _≤_, max}
 use native.Mathlib.Omega.{arith}
-use native.Mathlib.Nat.{le-refl, le-trans, mul-le-mul}
+use native.Mathlib.Nat.{le-refl, le-trans}
 use borrow.Author.Tests.{eqb-true, eq-eqb}
 use Rattle.rules.specs.declared.Direction.{Direction}
 use Rattle.rules.specs.declared.Direction.the-variants.{Vertical, Horizontal}
 use Rattle.rules.specs.declared.Rectangle.{Rectangle}
 use Rattle.rules.specs.Chip.{OnChip, left, right, bottom, top}
 use Rattle.rules.specs.Tree.{Tree, leaf, cut, has}
-use Rattle.rules.specs.Placement.{Placement, begins, ends, Kept, Follows, Lawful, furthest}
-use Rattle.rules.specs.Test.{Test, across, fits, room, merge}
-use Rattle.rules.proofs.Searching.{absurd-so, or-iff, know}
-use Rattle.rules.proofs.Rooms.{Growing, joined, joined-in, joined-out}
+use Rattle.rules.specs.Placement.{Placement, begins, ends, Follows, Lawful, furthest}
+use Rattle.rules.specs.Test.{Test, across, fits, merge}
+use Rattle.rules.proofs.Searching.{or-iff}
+use Rattle.rules.proofs.Rooms.{Growing, joined-in, joined-out}
 use Rattle.rules.proofs.Standing.{Once}
 use Rattle.rules.proofs.Fitting.{fits-growing}
 

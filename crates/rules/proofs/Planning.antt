@@ -1,12 +1,11 @@
 -- What choosing and going down over a design's own lists promise: no placement is lawful exactly if the root's list at (0, 0) is
 -- empty; otherwise the floorplan chosen is lawful, shares no cell, and has the least box. Assumes nothing.
-use mathlib.Core.Path.{_≡_, refl, sym, _∙_, ap}
+use mathlib.Core.Path.{_≡_, sym, _∙_}
 use mathlib.Core.Logic.{_⊎_, inl, inr, _↔_}
-use mathlib.Core.List.{List}
-use mathlib.Core.Bool.{Bool, So, _||_}
-use Prim.Native.Nat.{ℕ, suc, _+_, _-_, _*_, _≤_, _<_, max}
+use mathlib.Core.Bool.{So}
+use Prim.Native.Nat.{ℕ, suc, _+_, _-_, _≤_, _<_}
 use native.Mathlib.Omega.{arith}
-use native.Mathlib.Nat.{le-refl, le-trans, mul-le-mul}
+use native.Mathlib.Nat.{le-trans, mul-le-mul}
 use native.Mathlib.Decide.{decLt}
 use borrow.Author.Tests.{eqb-true}
 use Rattle.rules.specs.declared.Corner.{Corner}
@@ -15,17 +14,16 @@ use Rattle.rules.specs.declared.Rectangle.{Rectangle}
 use Rattle.rules.specs.declared.Direction.{Direction}
 use Rattle.rules.specs.declared.Direction.the-variants.{Vertical, Horizontal}
 use Rattle.rules.specs.Chip.{OnChip, corner, shape, left, right, bottom, top}
-use Rattle.rules.specs.Tree.{Tree, leaf, cut, has, position}
-use Rattle.rules.specs.Placement.{Placement, Follows, Kept, Lawful, Covers, ShareNoCell, begins, ends, furthest, box, area}
+use Rattle.rules.specs.Tree.{Tree, leaf, cut, has}
+use Rattle.rules.specs.Placement.{Placement, Follows, Lawful, Covers, ShareNoCell, begins, ends, box, area}
 use Rattle.rules.specs.Shape.{Realizes, ShapeAt, Listed}
-use Rattle.rules.specs.Slot.{Stores, CornerOn, IsListOf, Stair}
-use Rattle.rules.specs.Test.{Test, fits, room}
+use Rattle.rules.specs.Slot.{IsListOf, Stair}
+use Rattle.rules.specs.Test.{Test, room}
 use Rattle.rules.proofs.Searching.{or-iff}
 use Rattle.rules.proofs.Standing.{Once}
-use Rattle.rules.proofs.Rooms.{Growing}
 use Rattle.rules.proofs.Fitting.{Decides, realizes-fits, fits-growing, room-right}
-use Rattle.rules.proofs.Placing.{Inside, PlacedIn, Leaves, placed-fits, fits-placed, furthest-within, furthest-reaches}
-use Rattle.rules.proofs.Listing.{same-shape, list-complete, list-sorted}
+use Rattle.rules.proofs.Placing.{PlacedIn, Leaves, placed-fits, fits-placed, furthest-within, furthest-reaches}
+use Rattle.rules.proofs.Listing.{list-complete, list-sorted}
 use Rattle.rules.proofs.Choosing.{byte-stores}
 
 -- where a module's rectangle is its whole room, the laws ask of a leaf what its test decides

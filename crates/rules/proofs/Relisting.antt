@@ -2,10 +2,10 @@
 -- its need and a cut from its children's new lists, whose undominated pairings are its list. And what the relisting leaves is
 -- fixed, whatever the bytes before, since pairings hang on the children's bytes alone. Assumes nothing.
 use mathlib.Core.Path.{_≡_, refl, sym, _∙_, ap}
-use mathlib.Core.Logic.{_⊎_, inl, inr, ⊎-elim, _↔_}
+use mathlib.Core.Logic.{inl, inr, ⊎-elim, _↔_}
 use mathlib.Core.List.{List}
 use mathlib.Core.Bool.{So}
-use Prim.Native.Nat.{ℕ, suc, _+_, _-_, _≤_, _<_}
+use Prim.Native.Nat.{ℕ, _-_, _<_}
 use native.Mathlib.Omega.{arith}
 use Rattle.rules.specs.declared.Corner.{Corner}
 use Rattle.rules.specs.declared.Shape.{Shape}
@@ -13,20 +13,17 @@ use Rattle.rules.specs.declared.Rectangle.{Rectangle}
 use Rattle.rules.specs.declared.Direction.{Direction}
 use Rattle.rules.specs.declared.Design.{Design}
 use Rattle.rules.specs.declared.Edit.{Edit}
-use Rattle.rules.specs.declared.Edit.the-variants.{Need, Turn}
-use Rattle.rules.specs.Chip.{Suits}
 use Rattle.rules.specs.Tree.{Tree, leaf, cut, has, spans, position}
-use Rattle.rules.specs.Shape.{Realizes, ShapeAt, Undominated, Dominates}
+use Rattle.rules.specs.Shape.{Realizes, ShapeAt, Undominated}
 use Rattle.rules.specs.Slot.{slot, Stores, CornerOn, IsListOf, FullLists}
-use Rattle.rules.specs.Choice.{Pair, beside}
-use Rattle.rules.specs.Edit.{namesPlace, changed, changedNode, Paired, Relists, Relisted, EditedLists}
-use Rattle.rules.specs.Design.{LawfulDesign, OwnLists, SuitsOf, chipOf, needAt, nodeAt, nodes, root}
+use Rattle.rules.specs.Edit.{namesPlace, changed, changedNode, Relists, Relisted, EditedLists}
+use Rattle.rules.specs.Design.{LawfulDesign, OwnLists, SuitsOf, chipOf, nodeAt, nodes, root}
 use Rattle.rules.specs.Test.{Test}
 use Rattle.rules.proofs.Searching.{know, or-iff, eqb-iff}
-use Rattle.rules.proofs.Standing.{Part, whole, in-left, in-right, part-node, node-part, node-at, node-position}
+use Rattle.rules.proofs.Standing.{Part, whole, in-left, in-right, node-position}
+use Rattle.rules.proofs.Nodes.{part-node, node-part, node-at}
 use Rattle.rules.proofs.Fitting.{Decides}
 use Rattle.rules.proofs.Suiting.{design-decides}
-use Rattle.rules.proofs.Listing.{list-unique}
 use Rattle.rules.proofs.Pairing.{ListsAt, pairings-list-the-cut}
 use Rattle.rules.proofs.Changing.{Alike, alike-off, alike-spans, edit-lawful, edit-nodes, edit-keeps}
 

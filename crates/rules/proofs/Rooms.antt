@@ -4,12 +4,11 @@
 use mathlib.Core.Path.{_≡_, refl}
 use mathlib.Core.Logic.{_↔_}
 use mathlib.Core.Bool.{_&&_, So}
-use Prim.Native.Nat.{ℕ, suc, _≤_, _<_, max}
+use Prim.Native.Nat.{ℕ, _≤_, _<_, max}
 use native.Mathlib.Omega.{arith}
 use native.Mathlib.Nat.{le-refl}
 use Rattle.rules.specs.declared.Direction.{Direction}
 use Rattle.rules.specs.declared.Direction.the-variants.{Vertical, Horizontal}
-use Rattle.rules.specs.Search.{any}
 use Rattle.rules.specs.Test.{Test, turn, across, parted}
 use Rattle.rules.proofs.Searching.{any-iff, and-iff, first}
 

@@ -3,7 +3,7 @@
 use mathlib.Core.Path.{_≡_, refl, sym, _∙_}
 use mathlib.Core.Logic.{_⊎_, inl, inr, _↔_}
 use mathlib.Core.Bool.{Bool, true, false, not, _&&_, _||_, So, true≢false}
-use Prim.Native.Nat.{ℕ, zero, suc, _+_, _≤_, _<_}
+use Prim.Native.Nat.{ℕ, zero, suc, _+_, _-_, _≤_, _<_, min}
 use native.Mathlib.Omega.{arith}
 use native.Mathlib.Nat.{le-refl}
 use native.Mathlib.Decide.{decLe, ℕ-discrete}
@@ -173,6 +173,48 @@ count-le (suc n) f g h = go (know (f n)) (know (g n)) (count-le n f g h)
     go (inl s) _ ih = let a = count-yes n f s in let b = count-yes n g (h n s) in omega arith
     go (inr s) (inl t) ih = let a = count-no n f s in let b = count-yes n g t in omega arith
     go (inr s) (inr t) ih = let a = count-no n f s in let b = count-no n g t in omega arith
+
+-- counting: one more number that passes is one more, and where as many pass as there are, each passes
+pub count-most : (n : ℕ) (f : ℕ → Bool) → count n f ≤ n
+unfolding count
+count-most zero f = le-refl 0
+count-most (suc n) f = go (know (f n)) (count-most n f)
+  where
+    go : So (f n) ⊎ (So (f n) → ⊥) → count n f ≤ n → count (suc n) f ≤ suc n
+    go (inl t) h = omega (arith, count-yes n f t)
+    go (inr t) h = omega (arith, count-no n f t)
+
+pub count-one : (k : ℕ) (f : ℕ → Bool) → (So (f k) → ⊥) → (n : ℕ) → count n (λ i. eqb i k || f i) ≡ count n f + min 1 (n - k)
+unfolding count
+count-one k f h zero = omega arith
+count-one k f h (suc n) = go (ℕ-discrete n k) (know (f n)) (count-one k f h n)
+  where
+    g : ℕ → Bool
+    g i = eqb i k || f i
+
+    go : Dec (n ≡ k) → So (f n) ⊎ (So (f n) → ⊥) → count n g ≡ count n f + min 1 (n - k)
+        → count (suc n) g ≡ count (suc n) f + min 1 (suc n - k)
+    go (yes e) s ih =
+        let a = count-yes n g (or-iff (eqb n k) (f n) .1 (inl (eqb-iff n k .1 e))) in
+        let b = count-no n f (λ t. h (rw e at t)) in omega arith
+    go (no e) (inl s) ih = let a = count-yes n g (or-iff (eqb n k) (f n) .1 (inr s)) in let b = count-yes n f s in omega arith
+    go (no e) (inr s) ih = let a = count-no n g (λ t. none (or-iff (eqb n k) (f n) .0 t)) in let b = count-no n f s in omega arith
+      where
+        none : So (eqb n k) ⊎ So (f n) → ⊥
+        none (inl t) = e (eqb-iff n k .0 t)
+        none (inr t) = s t
+
+pub count-all : (n : ℕ) (f : ℕ → Bool) → n ≤ count n f → (k : ℕ) → k < n → So (f k)
+count-all n f h k l = go (know (f k))
+  where
+    go : So (f k) ⊎ (So (f k) → ⊥) → So (f k)
+    go (inl t) = t
+    go (inr t) = let a = count-one k f t n in let b = count-most n (λ i. eqb i k || f i) in absurd (omega arith)
+
+pub count-none : (n : ℕ) → count n (λ i. false) ≡ 0
+unfolding count
+count-none zero = refl
+count-none (suc n) = count-none n
 
 -- sums
 total-yes : (n : ℕ) (f : ℕ → Bool) (u : ℕ → ℕ) → So (f n) → total (suc n) f u ≡ u n + total n f u

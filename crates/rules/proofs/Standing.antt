@@ -1,29 +1,20 @@
--- What stands after some tokens, and the nodes of a design's tree. Each token adds a leaf or joins the two things standing
--- last, so these are inductions on the tokens read; that 2m-1 tokens leave one thing follows by counting the modules that
--- stand. Assumes nothing.
+-- What stands after some tokens. Each token adds a leaf or joins the two things standing last, so these are inductions on the
+-- tokens read; that 2m-1 tokens leave one thing follows by counting the modules that stand. Assumes nothing.
 use mathlib.Core.Path.{_≡_, refl, sym, ap, fun-ext}
 use mathlib.Core.Logic.{_⊎_, inl, inr, _↔_}
 use mathlib.Core.Bool.{Bool, true, false, not, _&&_, _||_, So}
 use mathlib.Core.List.{List, [], _∷_}
-use Prim.Native.Nat.{ℕ, zero, suc, _+_, _-_, _*_, _≤_, _<_, min}
+use Prim.Native.Nat.{ℕ, zero, suc, _+_, _-_, _*_, _≤_, _<_}
 use native.Mathlib.Omega.{arith}
-use native.Mathlib.Nat.{le-refl}
-use native.Mathlib.Decide.{decLt, ℕ-discrete}
+use native.Mathlib.Decide.{ℕ-discrete}
 use lib.Dec.{ltb, eqb}
 use lib.ListN.{length}
 use Rattle.rules.specs.declared.Direction.{Direction}
 use Rattle.rules.specs.declared.Token.{Token}
 use Rattle.rules.specs.declared.Token.the-variants.{Cut, Module, Beyond}
-use Rattle.rules.specs.declared.Design.{Design}
-use Rattle.rules.specs.declared.Refusal.the-variants.{BreaksLimits, NotOneThing}
-use Rattle.rules.specs.declared.Reply.{Reply}
-use Rattle.rules.specs.declared.Reply.the-variants.{Done, Refused}
 use Rattle.rules.specs.Search.{count}
 use Rattle.rules.specs.Tree.{Tree, leaf, cut, position, has, Standing, refused, things, stands, joined, added, after, standing, last}
-use Rattle.rules.specs.Placement.{Placement, Kept, Follows}
-use Rattle.rules.specs.Design.{mostModules, tokenAt, nodes, inRange, withinLimits, standingOf, nodeAt, root, treeTest, valueTest}
-use Rattle.rules.specs.Design.{LawfulDesign}
-use Rattle.rules.proofs.Searching.{absurd-so, and-iff, or-iff, not-iff, ltb-iff, eqb-iff, know, count-yes, count-no, test-iffs}
+use Rattle.rules.proofs.Searching.{absurd-so, and-iff, or-iff, not-iff, ltb-iff, eqb-iff, count-most, count-one, count-all, count-none}
 
 -- no module stands twice
 unfoldable pub Once : Tree → Type 0
@@ -220,48 +211,6 @@ module-once {m} {token} r s t k h g a b = go (earlier r t g .reading)
         f (among-stands (node-among r s h) j (rw (node-module (node-is r s h) a) (eqb-iff j k .1 (sym q))))
     go (cut-read r e) = let z : _≡_ {A = ℕ} 0 1 = cc in omega arith
 
--- counting: one more number that passes is one more, and where as many pass as there are, each passes
-count-most : (n : ℕ) (f : ℕ → Bool) → count n f ≤ n
-unfolding count
-count-most zero f = le-refl 0
-count-most (suc n) f = go (know (f n)) (count-most n f)
-  where
-    go : So (f n) ⊎ (So (f n) → ⊥) → count n f ≤ n → count (suc n) f ≤ suc n
-    go (inl t) h = omega (arith, count-yes n f t)
-    go (inr t) h = omega (arith, count-no n f t)
-
-count-one : (k : ℕ) (f : ℕ → Bool) → (So (f k) → ⊥) → (n : ℕ) → count n (λ i. eqb i k || f i) ≡ count n f + min 1 (n - k)
-unfolding count
-count-one k f h zero = omega arith
-count-one k f h (suc n) = go (ℕ-discrete n k) (know (f n)) (count-one k f h n)
-  where
-    g : ℕ → Bool
-    g i = eqb i k || f i
-
-    go : Dec (n ≡ k) → So (f n) ⊎ (So (f n) → ⊥) → count n g ≡ count n f + min 1 (n - k)
-        → count (suc n) g ≡ count (suc n) f + min 1 (suc n - k)
-    go (yes e) s ih =
-        let a = count-yes n g (or-iff (eqb n k) (f n) .1 (inl (eqb-iff n k .1 e))) in
-        let b = count-no n f (λ t. h (rw e at t)) in omega arith
-    go (no e) (inl s) ih = let a = count-yes n g (or-iff (eqb n k) (f n) .1 (inr s)) in let b = count-yes n f s in omega arith
-    go (no e) (inr s) ih = let a = count-no n g (λ t. none (or-iff (eqb n k) (f n) .0 t)) in let b = count-no n f s in omega arith
-      where
-        none : So (eqb n k) ⊎ So (f n) → ⊥
-        none (inl t) = e (eqb-iff n k .0 t)
-        none (inr t) = s t
-
-count-all : (n : ℕ) (f : ℕ → Bool) → n ≤ count n f → (k : ℕ) → k < n → So (f k)
-count-all n f h k l = go (know (f k))
-  where
-    go : So (f k) ⊎ (So (f k) → ⊥) → So (f k)
-    go (inl t) = t
-    go (inr t) = let a = count-one k f t n in let b = count-most n (λ i. eqb i k || f i) in absurd (omega arith)
-
-count-none : (n : ℕ) → count n (λ i. false) ≡ 0
-unfolding count
-count-none zero = refl
-count-none (suc n) = count-none n
-
 unfoldable OnceAll : List Tree → Type 0
 OnceAll [] = Unit {0}
 OnceAll (t ∷ ts) = Once t × OnceAll ts × ((k : ℕ) → So (has t k) → So (stands ts k) → ⊥)
@@ -319,113 +268,3 @@ one-stands m token ts h e = alone ts (fair (was-read (2 * m - 1) ts e))
         alone-has : (b : Bool) → b || false ≡ b
         alone-has true = refl
         alone-has false = refl
-
--- a design's tree test: 6 is never the answer
-pub modules-within : (d : Design) → So (withinLimits d) → (0 < d .modules) × (d .modules ≤ mostModules)
-unfolding withinLimits inRange
-modules-within d t = let s = simp test-iffs at t in (omega arith, omega arith)
-
-pub never-not-one-thing : (d : Design) (i : ℕ) → So (withinLimits d) → treeTest (standingOf d (nodes d)) ≡ Refused (NotOneThing i) → ⊥
-never-not-one-thing d i t e = go (standingOf d (nodes d)) refl e
-  where
-    go : (s : Standing) → standingOf d (nodes d) ≡ s → treeTest s ≡ Refused (NotOneThing i) → ⊥
-    go refused q e = let z : _≡_ {A = ℕ} 0 1 = cc in omega arith
-    go (things ts) q e =
-        let (u, w, o, x) = one-stands (d .modules) (tokenAt d) ts (modules-within d t .0) q in
-        let e' : Done ≡ Refused (NotOneThing i) = rw w at e in let z : _≡_ {A = ℕ} 0 1 = cc in omega arith
-
--- a lawful design is within the limits, and one thing stands in the end
-pub lawful-iff : (d : Design) → LawfulDesign d ↔ (So (withinLimits d) × (standingOf d (nodes d) ≡ things (root d ∷ [])))
-unfolding valueTest
-lawful-iff d = (λ e. to (withinLimits d) refl e, λ t. rw (t .0, valueTest, t .1))
-  where
-    one : (s : Standing) → treeTest s ≡ Done → s ≡ things (last s ∷ [])
-    one refused e = let z : _≡_ {A = ℕ} 0 1 = cc in absurd (omega arith)
-    one (things []) e = let z : _≡_ {A = ℕ} 0 1 = cc in absurd (omega arith)
-    one (things (t ∷ [])) e = refl
-    one (things (t ∷ (u ∷ ts))) e = let z : _≡_ {A = ℕ} 0 1 = cc in absurd (omega arith)
-
-    to : (b : Bool) → withinLimits d ≡ b
-        → elim b as (λ _. Reply) [ true ↦ treeTest (standingOf d (nodes d)) | false ↦ Refused (BreaksLimits 0) ] ≡ Done
-        → So (withinLimits d) × (standingOf d (nodes d) ≡ things (root d ∷ []))
-    to true t e = (t, one (standingOf d (nodes d)) e)
-    to false t e = let z : _≡_ {A = ℕ} 0 1 = cc in absurd (omega arith)
-
--- the tree of a lawful design
-pub record LawfulTree (d : Design) : Type 0 where
-  pub limits : So (withinLimits d)
-  pub reading : Reading (d .modules) (tokenAt d) (nodes d) (root d ∷ [])
-  pub once : Once (root d)
-  pub modules : (k : ℕ) → So (has (root d) k) ↔ (k < d .modules)
-
-pub lawful-tree : (d : Design) → LawfulDesign d → LawfulTree d
-lawful-tree d e =
-    let (t, s) = lawful-iff d .0 e in let (u, q, o, h) = one-stands (d .modules) (tokenAt d) (root d ∷ []) (modules-within d t .0) s in
-    let w : u ≡ root d = cc in
-    record { limits = t; reading = was-read (nodes d) (root d ∷ []) s; once = rw w at o; modules = rw w at h }
-
-only-among : {u t : Tree} → Among u (t ∷ []) → Part u t
-only-among (here p) = p
-
--- the nodes of a lawful design are the parts of its root
-module _ (d : Design) (lawful : LawfulDesign d) where
-  pub node-at : (t : ℕ) → t < nodes d → Node (d .modules) (tokenAt d) t (nodeAt d t)
-  node-at t h = node-is (lawful-tree d lawful .reading) t h
-
-  pub node-part : (t : ℕ) → t < nodes d → Part (nodeAt d t) (root d)
-  node-part t h = only-among (node-among (lawful-tree d lawful .reading) t h)
-
-  pub part-node : (u : Tree) → Part u (root d) → (position u < nodes d) × (u ≡ nodeAt d (position u))
-  part-node u p = among-node (lawful-tree d lawful .reading) (here p)
-
-  -- each module has one token
-  pub module-token : (k : ℕ) → k < d .modules → (t : ℕ) × (t < nodes d) × (tokenAt d t ≡ Module k)
-  module-token k h =
-      let (t, p) = leaf-of (root d) k (lawful-tree d lawful .modules k .1 h) in let (b, q) = part-node (leaf t k) p in
-      (t, b, says t (rw q (node-at t b)))
-    where
-      says : (t : ℕ) → Node (d .modules) (tokenAt d) t (leaf t k) → tokenAt d t ≡ Module k
-      says t (is-leaf e h) = e
-
-  pub module-only : (k s t : ℕ) → s < nodes d → t < nodes d → tokenAt d s ≡ Module k → tokenAt d t ≡ Module k → s ≡ t
-  module-only k s t h g a b = go (decLt s t) (decLt t s)
-    where
-      go : Dec (s < t) → Dec (t < s) → s ≡ t
-      go (yes l) _ = absurd (module-once (lawful-tree d lawful .reading) s t k l g a b)
-      go (no l) (yes q) = absurd (module-once (lawful-tree d lawful .reading) t s k q h b a)
-      go (no l) (no q) = omega arith
-
-  pub root-position : suc (position (root d)) ≡ nodes d
-  root-position = last-position (lawful-tree d lawful .reading)
-
-  -- what holds of each node holds of each part of the root, and back
-  pub by-nodes : (P : Tree → Type 0) → ((u : Tree) → Part u (root d) → P u) ↔ ((t : ℕ) → t < nodes d → P (nodeAt d t))
-  by-nodes P = (λ f t h. f (nodeAt d t) (node-part t h), λ f u p. let (h, q) = part-node u p in rw q (f (position u) h))
-
--- the cut at the top of a tree is kept
-abbrev pub KeptAt : Placement → Tree → Type 0
-KeptAt p (leaf t k) = Unit {0}
-KeptAt p (cut t d l r) = Kept d l r p
-
-top-kept : (t : Tree) (p : Placement) → Follows t p → KeptAt p t
-unfolding Follows
-top-kept (leaf t k) p f = tt
-top-kept (cut t d l r) p f = f .2
-
-part-kept : {u t : Tree} → Part u t → (p : Placement) → Follows t p → KeptAt p u
-unfolding Follows
-part-kept {u} whole p f = top-kept u p f
-part-kept (in-left q) p f = part-kept q p (f .0)
-part-kept (in-right q) p f = part-kept q p (f .1)
-
-parts-follow : (t : Tree) (p : Placement) → ((u : Tree) → Part u t → KeptAt p u) → Follows t p
-unfolding Follows
-parts-follow (leaf t k) p f = tt
-parts-follow (cut t d l r) p f =
-    (parts-follow l p (λ u q. f u (in-left q)), parts-follow r p (λ u q. f u (in-right q)), f (cut t d l r) whole)
-
--- a placement follows a lawful design's tree exactly if it keeps the cut at each node
-pub follows-by-nodes : (d : Design) → LawfulDesign d → (p : Placement)
-    → Follows (root d) p ↔ ((t : ℕ) → t < nodes d → KeptAt p (nodeAt d t))
-follows-by-nodes d e p =
-    let b = by-nodes d e (KeptAt p) in (λ f. b .0 (λ u q. part-kept q p f), λ f. parts-follow (root d) p (b .1 f))

@@ -44,11 +44,11 @@ suits-decided C n r = (
 )
 
 -- the checker's test of a need is 01's rule
-pub at-most-decided : (n m : Need) → AtMost n m ↔ So (isAtMost n m)
+pub at-most-iff : (n m : Need) → So (isAtMost n m) ↔ AtMost n m
 unfolding isAtMost
-at-most-decided n m = (
-  λ s. simp test-iffs ((s .clbs, s .rams), s .multipliers),
+at-most-iff n m = (
   λ t. let h = simp test-iffs at t in record { clbs = h .0 .0; rams = h .0 .1; multipliers = h .1 },
+  λ s. simp test-iffs ((s .clbs, s .rams), s .multipliers),
 )
 
 -- what a design's leaves list is decided by the test of their rooms

@@ -1,10 +1,10 @@
 -- The work bytes. Every byte that work needs is one byte of one slot, so what is said of each slot and of the bytes past them fixes
 -- the whole: two listings, or two relistings of the same bytes, leave the same bytes. Assumes nothing.
-use mathlib.Core.Path.{_≡_, refl, sym, _∙_, ap}
-use mathlib.Core.Logic.{_⊎_, inl, inr, ⊎-elim, _↔_}
+use mathlib.Core.Path.{_≡_, refl, sym, _∙_}
+use mathlib.Core.Logic.{⊎-elim, _↔_}
 use mathlib.Core.List.{List}
 use mathlib.Core.Bool.{So}
-use Prim.Native.Nat.{ℕ, zero, suc, _+_, _-_, _*_, _/_, _%_, _≤_, _<_}
+use Prim.Native.Nat.{ℕ, zero, suc, _+_, _*_, _/_, _%_, _≤_, _<_}
 use native.Mathlib.Omega.{arith}
 use native.Mathlib.Nat.{mul-le-mul-right, div-add-mod', mod-lt, div-lt-iff-lt-mul}
 use native.Mathlib.Decide.{decLt}
@@ -16,13 +16,13 @@ use Rattle.rules.specs.declared.Rectangle.{Rectangle}
 use Rattle.rules.specs.declared.Direction.{Direction}
 use Rattle.rules.specs.Chip.{corner}
 use Rattle.rules.specs.Tree.{Tree, leaf, cut, spans, position}
-use Rattle.rules.specs.Slot.{slot, slotStart, workNeeded, Stores, CornerOn, IsListOf, FullLists, PastKept}
-use Rattle.rules.specs.Choice.{Pair, beside}
+use Rattle.rules.specs.Slot.{slot, slotStart, workNeeded, CornerOn, FullLists, PastKept}
+use Rattle.rules.specs.Choice.{beside}
 use Rattle.rules.specs.Edit.{Paired, Relists, Relisted}
 use Rattle.rules.proofs.Searching.{know}
 use Rattle.rules.proofs.Standing.{Part}
 use Rattle.rules.proofs.Listing.{list-unique}
-use Rattle.rules.proofs.Relisting.{same-stores, same-undominated, same-list, part-left, part-right}
+use Rattle.rules.proofs.Relisting.{same-stores, same-list, part-left, part-right}
 
 -- two places of a number in base W are its only ones
 pub same-digits : (W a j a' j' : ℕ) → j < W → j' < W → a * W + j ≡ a' * W + j' → (a ≡ a') × (j ≡ j')

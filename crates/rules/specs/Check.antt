@@ -12,7 +12,7 @@ use Rattle.rules.specs.declared.Refusal.the-variants.{TooShort, OffTheCh
 use Rattle.rules.specs.declared.Reply.{Reply}
 use Rattle.rules.specs.declared.Reply.the-variants.{Done, Refused}
 use Rattle.rules.specs.Search.{all, least}
-use Rattle.rules.specs.Chip.{Chip, rectangle, right, top, holds}
+use Rattle.rules.specs.Chip.{rectangle, right, top, holds}
 use Rattle.rules.specs.Tree.{Tree, leaf, cut, has}
 use Rattle.rules.specs.Placement.{Placement, begins, ends}
 use Rattle.rules.specs.Design.{chipOf, needAt, nodes, nodeAt, valueTest}

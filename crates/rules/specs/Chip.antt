@@ -1,6 +1,6 @@
 -- 01, "Chip, rectangles, needs".
 use mathlib.Core.Bool.{Bool, _&&_}
-use Prim.Native.Nat.{ℕ, zero, suc, _+_, _*_, _/_, _≤_, _<_}
+use Prim.Native.Nat.{ℕ, zero, suc, _+_, _*_, _/_, _≤_}
 use lib.Dec.{leb, ltb, eqb}
 use Rattle.rules.specs.Search.{count, total}
 use Rattle.rules.specs.declared.Corner.{Corner}

@@ -11,7 +11,7 @@ use Rattle.rules.specs.declared.Rectangle.{Rectangle}
 use Rattle.rules.specs.declared.Direction.{Direction}
 use Rattle.rules.specs.declared.Design.{Design}
 use Rattle.rules.specs.declared.Edit.{Edit}
-use Rattle.rules.specs.declared.Edit.the-variants.{Need, Turn}
+use Rattle.rules.specs.declared.Edit.the-variants.{Change, Turn}
 use Rattle.rules.specs.Search.{least}
 use Rattle.rules.specs.Chip.{OnChip}
 use Rattle.rules.specs.Tree.{Tree, leaf, cut, position, spans}
@@ -22,12 +22,12 @@ use Rattle.rules.specs.Design.{nodes, lawfulNeed, nodeAt, SuitsOf}
 
 -- The edit names a module and brings a lawful need, or names a cut; otherwise it is refused with 11.
 unfoldable pub namesPlace : Design → Edit → Bool
-namesPlace d (Need k n) = ltb k (d .modules) && lawfulNeed n
+namesPlace d (Change k n) = ltb k (d .modules) && lawfulNeed n
 namesPlace d (Turn t) = ltb t (nodes d) && leb (getD (d .tokens) t 0) 1
 
 -- "hands the design back with that one change": the need of module k, or the cut at position t turned into the other kind
 unfoldable pub changed : Design → Edit → Design
-changed d (Need k n) = record {
+changed d (Change k n) = record {
   width = d .width;
   height = d .height;
   block = d .block;
@@ -48,7 +48,7 @@ changed d (Turn t) = record {
 
 -- the changed node: the cut itself, or module k's leaf
 unfoldable pub changedNode : Design → Edit → ℕ
-changedNode d (Need k n) = least (λ t. eqb (getD (d .tokens) t 0) (k + 2)) (nodes d) 0
+changedNode d (Change k n) = least (λ t. eqb (getD (d .tokens) t 0) (k + 2)) (nodes d) 0
 changedNode d (Turn t) = t
 
 -- "all pairings of the children's stored shapes in the pattern above .. that fit on the chip"

@@ -1,7 +1,7 @@
 -- Tests that compute, beside the rules that they decide. None of them has to be believed: proofs/ shows of each which rule it
 -- decides. A room is given by its four sides, left, bottom, right and top; its test is a Bool.
 use mathlib.Core.Bool.{Bool, true, false, _&&_}
-use Prim.Native.Nat.{ℕ, zero, suc, _+_, _-_, _*_, max}
+use Prim.Native.Nat.{ℕ, zero, suc, _+_, _-_, _*_}
 use lib.Dec.{leb, ltb, eqb}
 use Rattle.rules.specs.declared.Direction.{Direction}
 use Rattle.rules.specs.declared.Direction.the-variants.{Vertical, Horizontal}

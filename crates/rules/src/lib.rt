@@ -63,7 +63,7 @@ pub enum Token {
 
 // What to change.
 pub enum Edit {
-    Need { module: usize, need: Need },
+    Change { module: usize, need: Need },
     Turn { position: usize },
 }
 
