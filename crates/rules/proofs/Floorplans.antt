@@ -2,7 +2,6 @@
 -- or there is no lawful placement; over any stairs what goes down is lawful. Assumes nothing.
 use mathlib.Core.Path.{_≡_}
 use mathlib.Core.Logic.{_⊎_, inl, inr, ⊎-elim, _↔_}
-use mathlib.Core.List.{List}
 use mathlib.Core.Bool.{So}
 use Prim.Native.Nat.{ℕ, _+_, _-_, _≤_}
 use native.Mathlib.Omega.{arith}
@@ -14,9 +13,9 @@ use Rattle.rules.specs.Chip.{corner, holds}
 use Rattle.rules.specs.Tree.{position}
 use Rattle.rules.specs.Placement.{Placement, ShareNoCell, box, area}
 use Rattle.rules.specs.Shape.{Listed}
-use Rattle.rules.specs.Slot.{slot, Stores, CornerOn, Stair, Stairs}
-use Rattle.rules.specs.Choice.{Chosen, Down}
-use Rattle.rules.specs.Design.{LawfulDesign, LawfulPlacement, OwnLists, SuitsOf, chipOf, needAt, nodeAt, nodes, root, inRange, withinLimits}
+use Rattle.rules.specs.Slot.{Stores, CornerOn, Stair, Stairs}
+use Rattle.rules.specs.Choice.{Chosen}
+use Rattle.rules.specs.Design.{LawfulDesign, LawfulPlacement, OwnLists, rootSlot, GoesDown, SuitsOf, chipOf, needAt, nodeAt, nodes, root, inRange, withinLimits}
 use Rattle.rules.specs.Check.{isSuited}
 use Rattle.rules.specs.Test.{laid}
 use Rattle.rules.proofs.Searching.{test-iffs}
@@ -28,16 +27,6 @@ use Rattle.rules.proofs.Pairing.{ListsAt}
 use Rattle.rules.proofs.Choosing.{Empty, chooses}
 use Rattle.rules.proofs.Descending.{Every, laid-down, down-placed, own-goes-down}
 use Rattle.rules.proofs.Planning.{follow-apart, list-stair, none-listed, least-box, box-is}
-
--- the slots of a design's nodes in some work bytes, and what goes down from a shape at (0, 0)
-abbrev pub slotsOf : Design → List ℕ → ℕ → Corner → ℕ → ℕ
-slotsOf d work = slot (d .width .0) (d .height .0) work
-
-abbrev pub rootSlot : Design → List ℕ → ℕ → ℕ
-rootSlot d work = slotsOf d work (nodes d - 1) (corner 0 0)
-
-abbrev pub GoesDown : Design → List ℕ → Shape → Placement → Type 0
-GoesDown d work s p = Down (d .width .0) (d .height .0) (SuitsOf d) (slotsOf d work) (root d) (corner 0 0) s p
 
 -- what is promised of a floorplan: it is lawful, its rectangles share no cell, and its box, which is s, is the least
 pub record Floorplan (d : Design) (s : Shape) (p : Placement) : Type 0 where
@@ -54,48 +43,48 @@ corner-zero d lawful = let h = simp test-iffs at (lawful-tree d lawful .limits) 
 suited-decides : (d : Design) (k : ℕ) (r : Rectangle) → SuitsOf d k r ↔ So (isSuited d k r)
 suited-decides d k r = let e = at-most-iff (needAt d k) (holds (chipOf d) r) in (e .1, e .0)
 
-module _ (d : Design) (lawful : LawfulDesign d) (work : List ℕ) where
-  own-every : OwnLists d work → Every (λ u. ListsAt (d .width .0) (d .height .0) (SuitsOf d) (slotsOf d work (position u)) u) (root d)
+module _ (d : Design) (lawful : LawfulDesign d) (slots : ℕ → Corner → ℕ → ℕ) where
+  own-every : OwnLists d slots → Every (λ u. ListsAt (d .width .0) (d .height .0) (SuitsOf d) (slots (position u)) u) (root d)
   own-every own =
-      by-nodes d lawful (λ u. ListsAt (d .width .0) (d .height .0) (SuitsOf d) (slotsOf d work (position u)) u) .1
+      by-nodes d lawful (λ u. ListsAt (d .width .0) (d .height .0) (SuitsOf d) (slots (position u)) u) .1
       (λ t h c on. rw (node-position (node-at d lawful t h)) (own t c h on))
 
-  stairs-every : Stairs (d .width .0) (d .height .0) (nodes d) work
-      → Every (λ u. (c : Corner) → CornerOn (d .width .0) (d .height .0) c → Stair (d .width .0) (d .height .0) c (slotsOf d work (position u) c)) (root d)
-  stairs-every st = by-nodes d lawful (λ u. (c : Corner) → CornerOn (d .width .0) (d .height .0) c → Stair (d .width .0) (d .height .0) c (slotsOf d work (position u) c)) .1
+  stairs-every : Stairs (d .width .0) (d .height .0) (nodes d) slots
+      → Every (λ u. (c : Corner) → CornerOn (d .width .0) (d .height .0) c → Stair (d .width .0) (d .height .0) c (slots (position u) c)) (root d)
+  stairs-every st = by-nodes d lawful (λ u. (c : Corner) → CornerOn (d .width .0) (d .height .0) c → Stair (d .width .0) (d .height .0) c (slots (position u) c)) .1
       (λ t h c on. rw (node-position (node-at d lawful t h)) (st t c h on))
 
-  pub own-stairs : OwnLists d work → Stairs (d .width .0) (d .height .0) (nodes d) work
-  own-stairs own t c h on = list-stair (design-decides d) (nodeAt d t) c (slotsOf d work t c) (own t c h on)
+  pub own-stairs : OwnLists d slots → Stairs (d .width .0) (d .height .0) (nodes d) slots
+  own-stairs own t c h on = list-stair (design-decides d) (nodeAt d t) c (slots t c) (own t c h on)
 
   -- the root's slot is the slot of its position
-  root-at : (c : Corner) → slotsOf d work (nodes d - 1) c ≡ slotsOf d work (position (root d)) c
+  root-at : (c : Corner) → slots (nodes d - 1) c ≡ slots (position (root d)) c
   root-at c = let e = root-position d lawful in let q : nodes d - 1 ≡ position (root d) = omega arith in rw q
 
   -- whatever stairs a stranger wrote: what goes down is lawful, and lies in the shape
-  pub down-lawful : Stairs (d .width .0) (d .height .0) (nodes d) work → (s : Shape) (p : Placement) → Stores (d .width .0) (rootSlot d work) s
-      → GoesDown d work s p → PlacedIn (d .width .0) (d .height .0) (SuitsOf d) (root d) p 0 0 (0 + s .w .0) (0 + s .h .0)
+  pub down-lawful : Stairs (d .width .0) (d .height .0) (nodes d) slots → (s : Shape) (p : Placement) → Stores (d .width .0) (rootSlot d slots) s
+      → GoesDown d slots s p → PlacedIn (d .width .0) (d .height .0) (SuitsOf d) (root d) p 0 0 (0 + s .w .0) (0 + s .h .0)
   down-lawful st s p z down =
-      down-placed (slotsOf d work) (root d) (corner 0 0) s p (stairs-every st) (corner-zero d lawful) (rw (root-at (corner 0 0)) at z) down
+      down-placed slots (root d) (corner 0 0) s p (stairs-every st) (corner-zero d lawful) (rw (root-at (corner 0 0)) at z) down
 
-  module _ (own : OwnLists d work) where
-    root-listed : (s : Shape) → Stores (d .width .0) (rootSlot d work) s ↔ Listed (d .width .0) (d .height .0) (SuitsOf d) (root d) (corner 0 0) s
+  module _ (own : OwnLists d slots) where
+    root-listed : (s : Shape) → Stores (d .width .0) (rootSlot d slots) s ↔ Listed (d .width .0) (d .height .0) (SuitsOf d) (root d) (corner 0 0) s
     root-listed s = let l = own-every own (root d) whole (corner 0 0) (corner-zero d lawful) s in (λ z. l .0 (rw (root-at (corner 0 0)) at z), λ z. rw (root-at (corner 0 0)) (l .1 z))
 
     -- "no placement" is right exactly if the root's list at (0, 0) is empty
-    pub no-placement : Empty (d .width .0) (rootSlot d work) ↔ ((p : Placement) → LawfulPlacement d p → ⊥)
+    pub no-placement : Empty (d .width .0) (rootSlot d slots) ↔ ((p : Placement) → LawfulPlacement d p → ⊥)
     no-placement =
         let n = none-listed (design-decides d) (root d) (lawful-tree d lawful .once) in
         (λ f. n .1 (λ s z. f s (root-listed s .1 z)), λ f s z. n .0 f s (root-listed s .0 z))
 
     -- from the chosen shape one can go down, and whoever does has the promised floorplan
-    pub goes-down : (s : Shape) → Stores (d .width .0) (rootSlot d work) s → (p : Placement) × GoesDown d work s p
+    pub goes-down : (s : Shape) → Stores (d .width .0) (rootSlot d slots) s → (p : Placement) × GoesDown d slots s p
     goes-down s z =
-        let g = own-goes-down (design-decides d) (isSuited d) (suited-decides d) (slotsOf d work) (root d) (own-every own) (corner 0 0) s (corner-zero d lawful) (root-listed s .0 z) in
-        (laid (d .width .0) (d .height .0) (slotsOf d work) (root d) (corner 0 0) s,
-        laid-down (d .width .0) (d .height .0) (SuitsOf d) (slotsOf d work) (isSuited d) (suited-decides d) (root d) (lawful-tree d lawful .once) (corner 0 0) s g)
+        let g = own-goes-down (design-decides d) (isSuited d) (suited-decides d) slots (root d) (own-every own) (corner 0 0) s (corner-zero d lawful) (root-listed s .0 z) in
+        (laid (d .width .0) (d .height .0) slots (root d) (corner 0 0) s,
+        laid-down (d .width .0) (d .height .0) (SuitsOf d) slots (isSuited d) (suited-decides d) (root d) (lawful-tree d lawful .once) (corner 0 0) s g)
 
-    pub chosen-floorplan : (s : Shape) → Chosen (d .width .0) (rootSlot d work) s → (p : Placement) → GoesDown d work s p → Floorplan d s p
+    pub chosen-floorplan : (s : Shape) → Chosen (d .width .0) (rootSlot d slots) s → (p : Placement) → GoesDown d slots s p → Floorplan d s p
     chosen-floorplan s ch p down =
         let z = down-lawful (own-stairs own) s p (ch .stored) down in
         record {
@@ -106,9 +95,9 @@ module _ (d : Design) (lawful : LawfulDesign d) (work : List ℕ) where
         }
 
     -- plan's promise, whole: no lawful placement, or a shape is chosen, and one goes down from it to the floorplan promised
-    pub planned : (Empty (d .width .0) (rootSlot d work) × ((p : Placement) → LawfulPlacement d p → ⊥))
-        ⊎ ((s : Shape) × Chosen (d .width .0) (rootSlot d work) s × ((p : Placement) × GoesDown d work s p × Floorplan d s p))
+    pub planned : (Empty (d .width .0) (rootSlot d slots) × ((p : Placement) → LawfulPlacement d p → ⊥))
+        ⊎ ((s : Shape) × Chosen (d .width .0) (rootSlot d slots) s × ((p : Placement) × GoesDown d slots s p × Floorplan d s p))
     planned =
         ⊎-elim (λ e. inl (e .1, no-placement .0 (e .1)))
         (λ ch. let (p, down) = goes-down _ (ch .stored) in inr (_, ch, (p, down, chosen-floorplan _ ch p down)))
-        (chooses (d .width .0) (rootSlot d work))
+        (chooses (d .width .0) (rootSlot d slots))

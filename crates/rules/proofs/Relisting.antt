@@ -17,7 +17,7 @@ use Rattle.rules.specs.Tree.{Tree, leaf, cut, has, spans, position}
 use Rattle.rules.specs.Shape.{Realizes, ShapeAt, Undominated}
 use Rattle.rules.specs.Slot.{slot, Stores, CornerOn, IsListOf, FullLists}
 use Rattle.rules.specs.Edit.{namesPlace, changed, changedNode, Relists, Relisted, EditedLists}
-use Rattle.rules.specs.Design.{LawfulDesign, OwnLists, SuitsOf, chipOf, nodeAt, nodes, root}
+use Rattle.rules.specs.Design.{LawfulDesign, OwnLists, slotsOf, SuitsOf, chipOf, nodeAt, nodes, root}
 use Rattle.rules.specs.Test.{Test}
 use Rattle.rules.proofs.Searching.{know, or-iff, eqb-iff}
 use Rattle.rules.proofs.Standing.{Part, whole, in-left, in-right, node-position}
@@ -66,7 +66,7 @@ module _ {W H : ℕ} (S : ℕ → Rectangle → Type 0) {S' : ℕ → Rectangle 
     (node node' : ℕ → Tree) (n p : ℕ) (tree : Tree)
     (parts : (u : Tree) → Part u tree → (position u < n) × (u ≡ node' (position u)))
     (off : (t : ℕ) → t < n → (So (spans (node' t) p) → ⊥) → (c : Corner) (s : Shape) → ShapeAt W H S (node t) c s ↔ ShapeAt W H S' (node' t) c s)
-    (work work' : List ℕ) (own : FullLists W H S node n work) (rel : Relisted W H S' node' n p work work') where
+    (work work' : List ℕ) (own : FullLists W H S node n (slot W H work)) (rel : Relisted W H S' node' n p work work') where
   -- the slots of a part off the way are its lists still
   kept-lists : (u : Tree) → Part u tree → (So (spans u p) → ⊥) → ListsAt W H S' (slot W H work' (position u)) u
   kept-lists u q o c on =
@@ -96,8 +96,8 @@ off-same d d' p u u' ec a o c s =
     λ z. realizes-same (d .width .0) (d .height .0) u (λ k r i x. rw (← ec, f k i) x) _ (rw (← e) at z))
 
 -- relisting the way from an edited node to the root turns own lists of the old design into own lists of the new one
-pub relisted-own : (d : Design) (e : Edit) → LawfulDesign d → So (namesPlace d e) → (work work' : List ℕ) → OwnLists d work → EditedLists d e work work'
-    → OwnLists (changed d e) work'
+pub relisted-own : (d : Design) (e : Edit) → LawfulDesign d → So (namesPlace d e) → (work work' : List ℕ) → OwnLists d (slotsOf d work) → EditedLists d e work work'
+    → OwnLists (changed d e) (slotsOf (changed d e) work')
 unfolding changed
 relisted-own d e lawful names work work' own rel =
     let d' = changed d e in let p = changedNode d e in let lawful' = edit-lawful d lawful e names in let k = edit-keeps d e in

@@ -81,7 +81,7 @@ same-work W H n before after after' k k' e = ext-getD 0 after after' (k .length 
 -- two listings of the same nodes leave the same bytes
 pub listed-once : (W H : ℕ) (S : ℕ → Rectangle → Type 0) (node : ℕ → Tree) (n : ℕ) (before after after' : List ℕ)
     → PastKept (workNeeded W H n) before after → PastKept (workNeeded W H n) before after'
-    → FullLists W H S node n after → FullLists W H S node n after' → after ≡ after'
+    → FullLists W H S node n (slot W H after) → FullLists W H S node n (slot W H after') → after ≡ after'
 listed-once W H S node n before after after' k k' l l' =
     same-work W H n before after after' k k' (λ t c h on. list-unique W (slot W H after t c) (slot W H after' t c) (l t c h on) (l' t c h on))
 

@@ -6,6 +6,8 @@ use Prim.Native.Nat.{ℕ, suc, _-_, _*_, _<_}
 use lib.Dec.{leb, eqb}
 use lib.ListN.{getD}
 use Rattle.rules.specs.declared.Need.{Need}
+use Rattle.rules.specs.declared.Corner.{Corner}
+use Rattle.rules.specs.declared.Shape.{Shape}
 use Rattle.rules.specs.declared.Rectangle.{Rectangle}
 use Rattle.rules.specs.declared.Design.{Design}
 use Rattle.rules.specs.declared.Token.{Token}
@@ -13,10 +15,11 @@ use Rattle.rules.specs.declared.Refusal.the-variants.{BreaksLimits, BadT
 use Rattle.rules.specs.declared.Reply.{Reply}
 use Rattle.rules.specs.declared.Reply.the-variants.{Done, Refused}
 use Rattle.rules.specs.Search.{all}
-use Rattle.rules.specs.Chip.{Chip, columnOf, Suits}
+use Rattle.rules.specs.Chip.{Chip, corner, columnOf, Suits}
 use Rattle.rules.specs.Tree.{Tree, Standing, refused, things, tokenOf, standing, last}
 use Rattle.rules.specs.Placement.{Placement, Lawful}
-use Rattle.rules.specs.Slot.{FullLists}
+use Rattle.rules.specs.Slot.{slot, FullLists}
+use Rattle.rules.specs.Choice.{Down}
 
 -- "Limits: W 1..64, H 1..64, B 1..H, kinds 0..2, modules m 1..16, each of a need's three numbers 0..65,535, not all three
 -- zero." The numbers are said here alone, and no law names them.
@@ -87,12 +90,23 @@ nodeAt d t = last (standingOf d (suc t))
 abbrev pub root : Design → Tree
 root d = last (standingOf d (nodes d))
 
--- a lawful placement of the design, and work bytes that hold its full lists
+-- a lawful placement of the design
 abbrev pub LawfulPlacement : Design → Placement → Type 0
 LawfulPlacement d p = Lawful (d .width .0) (d .height .0) (SuitsOf d) (root d) p
 
-abbrev pub OwnLists : Design → List ℕ → Type 0
-OwnLists d work = FullLists (d .width .0) (d .height .0) (SuitsOf d) (nodeAt d) (nodes d) work
+-- the slots of a design's nodes in work bytes; slots that are the design's full lists
+abbrev pub slotsOf : Design → List ℕ → ℕ → Corner → ℕ → ℕ
+slotsOf d work = slot (d .width .0) (d .height .0) work
+
+abbrev pub OwnLists : Design → (ℕ → Corner → ℕ → ℕ) → Type 0
+OwnLists d slots = FullLists (d .width .0) (d .height .0) (SuitsOf d) (nodeAt d) (nodes d) slots
+
+-- going down from a shape of the root at (0, 0)
+abbrev pub rootSlot : Design → (ℕ → Corner → ℕ → ℕ) → ℕ → ℕ
+rootSlot d slots = slots (nodes d - 1) (corner 0 0)
+
+abbrev pub GoesDown : Design → (ℕ → Corner → ℕ → ℕ) → Shape → Placement → Type 0
+GoesDown d slots s p = Down (d .width .0) (d .height .0) (SuitsOf d) slots (root d) (corner 0 0) s p
 
 -- 5: "token over m+1, module repeated, or cut with fewer than two things standing"; 6: "tokens used up and not exactly one
 -- thing stands"

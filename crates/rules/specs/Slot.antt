@@ -38,10 +38,10 @@ pub record Stores (W : ℕ) (bytes : ℕ → ℕ) (s : Shape) : Type 0 where
 abbrev pub IsListOf : ℕ → (ℕ → ℕ) → (Shape → Type 0) → Type 0
 IsListOf W bytes P = (s : Shape) → Stores W bytes s ↔ Undominated P s
 
--- The full lists of the nodes below n: at every corner of the chip each node's slot is its list.
-abbrev pub FullLists : ℕ → ℕ → (ℕ → Rectangle → Type 0) → (ℕ → Tree) → ℕ → List ℕ → Type 0
-FullLists W H Suits node n work =
-    (t : ℕ) (c : Corner) → t < n → CornerOn W H c → IsListOf W (slot W H work t c) (ShapeAt W H Suits (node t) c)
+-- The slots are the full lists of the nodes below n: at every corner of the chip each node's slot is its list.
+abbrev pub FullLists : ℕ → ℕ → (ℕ → Rectangle → Type 0) → (ℕ → Tree) → ℕ → (ℕ → Corner → ℕ → ℕ) → Type 0
+FullLists W H Suits node n slots =
+    (t : ℕ) (c : Corner) → t < n → CornerOn W H c → IsListOf W (slots t c) (ShapeAt W H Suits (node t) c)
 
 -- "bytes after them are never touched"
 pub record PastKept (size : ℕ) (before after : List ℕ) : Type 0 where
@@ -55,5 +55,5 @@ pub record Stair (W H : ℕ) (c : Corner) (bytes : ℕ → ℕ) : Type 0 where
   pub columns : (j : ℕ) → j < W → W - c .x .0 < suc j → bytes j ≡ 0
 
 -- every slot of every node is a stair
-abbrev pub Stairs : ℕ → ℕ → ℕ → List ℕ → Type 0
-Stairs W H n work = (t : ℕ) (c : Corner) → t < n → CornerOn W H c → Stair W H c (slot W H work t c)
+abbrev pub Stairs : ℕ → ℕ → ℕ → (ℕ → Corner → ℕ → ℕ) → Type 0
+Stairs W H n slots = (t : ℕ) (c : Corner) → t < n → CornerOn W H c → Stair W H c (slots t c)
