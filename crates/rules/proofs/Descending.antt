@@ -17,14 +17,14 @@ use Rattle.rules.specs.Chip.{OnChip}
 use Rattle.rules.specs.Tree.{Tree, leaf, cut, has, position}
 use Rattle.rules.specs.Placement.{Placement, Follows}
 use Rattle.rules.specs.Shape.{Realizes, Listed}
-use Rattle.rules.specs.Slot.{Stores, CornerOn, Stair}
+use Rattle.rules.specs.Slot.{Stores, CornerOn, Stair, ListsAt}
 use Rattle.rules.specs.Choice.{Down, beside, pairing}
 use Rattle.rules.specs.Test.{Test, leftShape, rightShape, hasPair, goesDown, laid, merge}
 use Rattle.rules.proofs.Searching.{or-iff, and-iff}
 use Rattle.rules.proofs.Fitting.{Decides}
 use Rattle.rules.proofs.Standing.{Once, Part, whole, in-left, in-right}
 use Rattle.rules.proofs.Placing.{PlacedIn, wider, both-placed, merge-left, merge-right}
-use Rattle.rules.proofs.Pairing.{ListsAt, pairings-list-the-cut}
+use Rattle.rules.proofs.Pairing.{pairings-list-the-cut}
 use Rattle.rules.proofs.Choosing.{takes, taken-once, pair-found}
 
 -- something holds of a tree and of every part of it

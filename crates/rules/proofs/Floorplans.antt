@@ -13,7 +13,7 @@ use Rattle.rules.specs.Chip.{corner, holds}
 use Rattle.rules.specs.Tree.{position}
 use Rattle.rules.specs.Placement.{Placement, ShareNoCell, box, area}
 use Rattle.rules.specs.Shape.{Listed}
-use Rattle.rules.specs.Slot.{Stores, CornerOn, Stair, Stairs}
+use Rattle.rules.specs.Slot.{Stores, CornerOn, Stair, Stairs, ListsAt}
 use Rattle.rules.specs.Choice.{Chosen}
 use Rattle.rules.specs.Design.{LawfulDesign, LawfulPlacement, OwnLists, rootSlot, GoesDown, SuitsOf, chipOf, needAt, nodeAt, nodes, root, inRange, withinLimits}
 use Rattle.rules.specs.Check.{isSuited}
@@ -23,7 +23,6 @@ use Rattle.rules.proofs.Nodes.{lawful-tree, root-position, node-at, by-
 use Rattle.rules.proofs.Standing.{whole, node-position}
 use Rattle.rules.proofs.Suiting.{design-decides, at-most-iff}
 use Rattle.rules.proofs.Placing.{PlacedIn}
-use Rattle.rules.proofs.Pairing.{ListsAt}
 use Rattle.rules.proofs.Choosing.{Empty, chooses}
 use Rattle.rules.proofs.Descending.{Every, laid-down, down-placed, own-goes-down}
 use Rattle.rules.proofs.Planning.{follow-apart, list-stair, none-listed, least-box, box-is}
@@ -47,7 +46,7 @@ module _ (d : Design) (lawful : LawfulDesign d) (slots : ℕ → Corner → ℕ 
   own-every : OwnLists d slots → Every (λ u. ListsAt (d .width .0) (d .height .0) (SuitsOf d) (slots (position u)) u) (root d)
   own-every own =
       by-nodes d lawful (λ u. ListsAt (d .width .0) (d .height .0) (SuitsOf d) (slots (position u)) u) .1
-      (λ t h c on. rw (node-position (node-at d lawful t h)) (own t c h on))
+      (λ t h c on. rw (node-position (node-at d lawful t h)) (own t h c on))
 
   stairs-every : Stairs (d .width .0) (d .height .0) (nodes d) slots
       → Every (λ u. (c : Corner) → CornerOn (d .width .0) (d .height .0) c → Stair (d .width .0) (d .height .0) c (slots (position u) c)) (root d)
@@ -55,7 +54,7 @@ module _ (d : Design) (lawful : LawfulDesign d) (slots : ℕ → Corner → ℕ 
       (λ t h c on. rw (node-position (node-at d lawful t h)) (st t c h on))
 
   pub own-stairs : OwnLists d slots → Stairs (d .width .0) (d .height .0) (nodes d) slots
-  own-stairs own t c h on = list-stair (design-decides d) (nodeAt d t) c (slots t c) (own t c h on)
+  own-stairs own t c h on = list-stair (design-decides d) (nodeAt d t) c (slots t c) (own t h c on)
 
   -- the root's slot is the slot of its position
   root-at : (c : Corner) → slots (nodes d - 1) c ≡ slots (position (root d)) c

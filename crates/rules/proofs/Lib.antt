@@ -10,6 +10,7 @@ pub mod Listing
 pub mod Pairing
 pub mod Choosing
 pub mod Descending
+pub mod Agreeing
 pub mod Planning
 pub mod Floorplans
 pub mod Checking

@@ -1,6 +1,6 @@
 -- The bytes of a list. For each width the least height, where it is less than for the width before, is the height of the listed
 -- shape of that width; so the computed bytes are the list, and they are the only ones. Assumes nothing.
-use mathlib.Core.Path.{_≡_, refl, sym, ap}
+use mathlib.Core.Path.{_≡_, refl, sym, _∙_, ap}
 use mathlib.Core.Logic.{_↔_}
 use mathlib.Core.Bool.{Bool, true, false, So}
 use Prim.Native.Nat.{ℕ, suc, _+_, _-_, _≤_, _<_}
@@ -110,6 +110,21 @@ minimal-undominated {Q} {P} a c solid says s = (
         let eb : a + (b' - a) ≡ b' = omega arith in let ed : c + (d' - c) ≡ d' = omega arith in
         let e = u .alone o (says o .1 (rw (eb, ed) t)) (record { wide = omega arith; high = omega arith }) in
         let ew : b' - a ≡ s .w .0 = ap (λ o. o .w .0) e in let eh : d' - c ≡ s .h .0 = ap (λ o. o .h .0) e in (omega arith, omega arith)
+
+-- a list of some shapes, in other bytes that agree with it, of other shapes that are the same
+pub same-undominated : {P Q : Shape → Type 0} → ((s : Shape) → P s ↔ Q s) → (s : Shape) → Undominated P s → Undominated Q s
+same-undominated e s u = record { is = e s .0 (u .is); alone = λ o q d. u .alone o (e o .1 q) d }
+
+pub same-stores : (W : ℕ) (g g' : ℕ → ℕ) → ((j : ℕ) → j < W → g j ≡ g' j) → (s : Shape) → Stores W g s → Stores W g' s
+same-stores W g g' e s z =
+    let p = z .wide in let q = z .within in
+    record { wide = p; within = q; high = z .high; byte = sym (e (s .w .0 - 1) (omega arith)) ∙ z .byte }
+
+pub same-list : (W : ℕ) (g g' : ℕ → ℕ) {P Q : Shape → Type 0} → ((j : ℕ) → j < W → g j ≡ g' j) → ((s : Shape) → P s ↔ Q s) → IsListOf W g P → IsListOf W g' Q
+same-list W g g' e f l s = (
+  λ z. same-undominated f s (l s .0 (same-stores W g' g (λ j h. sym (e j h)) s z)),
+  λ u. same-stores W g g' e s (l s .1 (same-undominated (λ o. (f o .1, f o .0)) s u)),
+)
 
 -- slots that hold the same shapes have the same bytes
 pub same-bytes : (W : ℕ) (g g' : ℕ → ℕ) → ((s : Shape) → Stores W g s ↔ Stores W g' s) → (j : ℕ) → j < W → g j ≡ g' j

@@ -12,8 +12,8 @@ use Rattle.rules.specs.declared.Direction.{Direction}
 use Rattle.rules.specs.declared.Direction.the-variants.{Vertical, Horizontal}
 use Rattle.rules.specs.Chip.{corner, shape}
 use Rattle.rules.specs.Tree.{Tree, cut}
-use Rattle.rules.specs.Shape.{ShapeAt, Undominated, Listed}
-use Rattle.rules.specs.Slot.{Stores, CornerOn, IsListOf}
+use Rattle.rules.specs.Shape.{Undominated, Listed}
+use Rattle.rules.specs.Slot.{Stores, IsListOf, ListsAt}
 use Rattle.rules.specs.Choice.{pairing}
 use Rattle.rules.specs.Edit.{Paired}
 use Rattle.rules.specs.Test.{Test, Grid, turn, across, fits, listByte, stored, sideBySide, pairTest}
@@ -193,10 +193,6 @@ module _ (W H : ℕ) (k : Direction) (L R : Corner → ℕ → ℕ) (c : Corner)
       let m = bytes-minimal (pairs-rising W H (grid L) (grid R) k (c .x .0) (c .y .0)) s in
       let p = pairs-minimal W H (grid L) (grid R) k (c .x .0) (c .y .0) (c .x .0 + s .w .0) (c .y .0 + s .h .0) in let u = paired-minimal s in
       (λ z. u .0 (p .0 (m .0 z)), λ z. m .1 (p .1 (u .1 z)))
-
--- a node's slots are its lists at every corner of the chip
-abbrev pub ListsAt : ℕ → ℕ → (ℕ → Rectangle → Type 0) → (Corner → ℕ → ℕ) → Tree → Type 0
-ListsAt W H S g t = (c : Corner) → CornerOn W H c → IsListOf W (g c) (ShapeAt W H S t c)
 
 module _ {W H : ℕ} {S : ℕ → Rectangle → Type 0} {F : ℕ → Test} (dec : Decides W H S F) where
   pub stored-lists : (g : Corner → ℕ → ℕ) (t : Tree) → ListsAt W H S g t → Lists (fits F t) (Passes (stored W H (grid g)))

@@ -1,12 +1,11 @@
 -- An edit's relisting. Off the way nothing changed, so the old bytes are the new design's lists; on the way a leaf is listed from
 -- its need and a cut from its children's new lists, whose undominated pairings are its list. And what the relisting leaves is
 -- fixed, whatever the bytes before, since pairings hang on the children's bytes alone. Assumes nothing.
-use mathlib.Core.Path.{_≡_, refl, sym, _∙_, ap}
+use mathlib.Core.Path.{_≡_, refl, sym, ap}
 use mathlib.Core.Logic.{inl, inr, ⊎-elim, _↔_}
 use mathlib.Core.List.{List}
 use mathlib.Core.Bool.{So}
-use Prim.Native.Nat.{ℕ, _-_, _<_}
-use native.Mathlib.Omega.{arith}
+use Prim.Native.Nat.{ℕ, _<_}
 use Rattle.rules.specs.declared.Corner.{Corner}
 use Rattle.rules.specs.declared.Shape.{Shape}
 use Rattle.rules.specs.declared.Rectangle.{Rectangle}
@@ -14,8 +13,8 @@ use Rattle.rules.specs.declared.Direction.{Direction}
 use Rattle.rules.specs.declared.Design.{Design}
 use Rattle.rules.specs.declared.Edit.{Edit}
 use Rattle.rules.specs.Tree.{Tree, leaf, cut, has, spans, position}
-use Rattle.rules.specs.Shape.{Realizes, ShapeAt, Undominated}
-use Rattle.rules.specs.Slot.{slot, Stores, CornerOn, IsListOf, FullLists}
+use Rattle.rules.specs.Shape.{Realizes, ShapeAt}
+use Rattle.rules.specs.Slot.{slot, CornerOn, IsListOf, FullLists, ListsAt}
 use Rattle.rules.specs.Edit.{namesPlace, changed, changedNode, Relists, Relisted, EditedLists}
 use Rattle.rules.specs.Design.{LawfulDesign, OwnLists, slotsOf, SuitsOf, chipOf, nodeAt, nodes, root}
 use Rattle.rules.specs.Test.{Test}
@@ -24,23 +23,9 @@ use Rattle.rules.proofs.Standing.{Part, whole, in-left, in-right, node-
 use Rattle.rules.proofs.Nodes.{part-node, node-part, node-at}
 use Rattle.rules.proofs.Fitting.{Decides}
 use Rattle.rules.proofs.Suiting.{design-decides}
-use Rattle.rules.proofs.Pairing.{ListsAt, pairings-list-the-cut}
+use Rattle.rules.proofs.Listing.{same-list}
+use Rattle.rules.proofs.Pairing.{pairings-list-the-cut}
 use Rattle.rules.proofs.Changing.{Alike, alike-off, alike-spans, edit-lawful, edit-nodes, edit-keeps}
-
--- a list of some shapes, in other bytes that agree with it, of other shapes that are the same
-pub same-undominated : {P Q : Shape → Type 0} → ((s : Shape) → P s ↔ Q s) → (s : Shape) → Undominated P s → Undominated Q s
-same-undominated e s u = record { is = e s .0 (u .is); alone = λ o q d. u .alone o (e o .1 q) d }
-
-pub same-stores : (W : ℕ) (g g' : ℕ → ℕ) → ((j : ℕ) → j < W → g j ≡ g' j) → (s : Shape) → Stores W g s → Stores W g' s
-same-stores W g g' e s z =
-    let p = z .wide in let q = z .within in
-    record { wide = p; within = q; high = z .high; byte = sym (e (s .w .0 - 1) (omega arith)) ∙ z .byte }
-
-pub same-list : (W : ℕ) (g g' : ℕ → ℕ) {P Q : Shape → Type 0} → ((j : ℕ) → j < W → g j ≡ g' j) → ((s : Shape) → P s ↔ Q s) → IsListOf W g P → IsListOf W g' Q
-same-list W g g' e f l s = (
-  λ z. same-undominated f s (l s .0 (same-stores W g' g (λ j h. sym (e j h)) s z)),
-  λ u. same-stores W g g' e s (l s .1 (same-undominated (λ o. (f o .1, f o .0)) s u)),
-)
 
 -- a tree's shapes hang on what suits its own modules
 pub realizes-same : (W H : ℕ) {S S' : ℕ → Rectangle → Type 0} (t : Tree) → ((k : ℕ) (r : Rectangle) → So (has t k) → S k r → S' k r)
@@ -71,7 +56,7 @@ module _ {W H : ℕ} (S : ℕ → Rectangle → Type 0) {S' : ℕ → Rectangle 
   kept-lists : (u : Tree) → Part u tree → (So (spans u p) → ⊥) → ListsAt W H S' (slot W H work' (position u)) u
   kept-lists u q o c on =
       let (h, e) = parts u q in let o' : So (spans (node' (position u)) p) → ⊥ = rw e at o in
-      rw (← e) at (same-list W _ (slot W H work' (position u) c) (λ j k. sym (rel .off (position u) c h on o' j k)) (off (position u) h o' c) (own (position u) c h on))
+      rw (← e) at (same-list W _ (slot W H work' (position u) c) (λ j k. sym (rel .off (position u) c h on o' j k)) (off (position u) h o' c) (own (position u) h c on))
 
   -- the slots of a part on the way are the list of what it is relisted from
   made-lists : (u : Tree) → Part u tree → So (spans u p) → (c : Corner) → CornerOn W H c → IsListOf W (slot W H work' (position u) c) (Relists W H S' work' u c)
@@ -105,4 +90,4 @@ relisted-own d e lawful names work work' own rel =
     let lists = relisted-lists (SuitsOf d) (rw (kw, kh) at (design-decides d')) (nodeAt d) (nodeAt d') (nodes d) p (root d')
         (λ u q. let (h, r) = part-node d' lawful' u q in (rw (k .nodes-same) at h, r))
         (λ t h o. off-same d d' p (nodeAt d t) (nodeAt d' t) (k .chip) (edit-nodes d lawful e names t h) o) work work' own rel in
-    rw (kw, kh) (λ t c h on. rw (node-position (node-at d' lawful' t h)) at (lists (nodeAt d' t) (node-part d' lawful' t h) c on))
+    rw (kw, kh) (λ t h c on. rw (node-position (node-at d' lawful' t h)) at (lists (nodeAt d' t) (node-part d' lawful' t h) c on))

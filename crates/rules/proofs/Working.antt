@@ -13,16 +13,15 @@ use lib.Seq.{ext-getD}
 use Rattle.rules.specs.declared.Corner.{Corner}
 use Rattle.rules.specs.declared.Shape.{Shape}
 use Rattle.rules.specs.declared.Rectangle.{Rectangle}
-use Rattle.rules.specs.declared.Direction.{Direction}
 use Rattle.rules.specs.Chip.{corner}
 use Rattle.rules.specs.Tree.{Tree, leaf, cut, spans, position}
 use Rattle.rules.specs.Slot.{slot, slotStart, workNeeded, CornerOn, FullLists, PastKept}
-use Rattle.rules.specs.Choice.{beside}
-use Rattle.rules.specs.Edit.{Paired, Relists, Relisted}
+use Rattle.rules.specs.Edit.{Relists, Relisted}
 use Rattle.rules.proofs.Searching.{know}
 use Rattle.rules.proofs.Standing.{Part}
-use Rattle.rules.proofs.Listing.{list-unique}
-use Rattle.rules.proofs.Relisting.{same-stores, same-list, part-left, part-right}
+use Rattle.rules.proofs.Listing.{list-unique, same-list}
+use Rattle.rules.proofs.Agreeing.{Agree, agree-back, paired-agree}
+use Rattle.rules.proofs.Relisting.{part-left, part-right}
 
 -- two places of a number in base W are its only ones
 pub same-digits : (W a j a' j' : ℕ) → j < W → j' < W → a * W + j ≡ a' * W + j' → (a ≡ a') × (j ≡ j')
@@ -83,39 +82,23 @@ pub listed-once : (W H : ℕ) (S : ℕ → Rectangle → Type 0) (node : ℕ →
     → PastKept (workNeeded W H n) before after → PastKept (workNeeded W H n) before after'
     → FullLists W H S node n (slot W H after) → FullLists W H S node n (slot W H after') → after ≡ after'
 listed-once W H S node n before after after' k k' l l' =
-    same-work W H n before after after' k k' (λ t c h on. list-unique W (slot W H after t c) (slot W H after' t c) (l t c h on) (l' t c h on))
-
--- pairings hang on the children's bytes alone
-same-paired : (W H : ℕ) (d : Direction) (L L' R R' : Corner → ℕ → ℕ)
-    → ((c : Corner) → CornerOn W H c → (j : ℕ) → j < W → L c j ≡ L' c j) → ((c : Corner) → CornerOn W H c → (j : ℕ) → j < W → R c j ≡ R' c j)
-    → (c : Corner) → CornerOn W H c → (s : Shape) → Paired W H d L R c s → Paired W H d L' R' c s
-same-paired W H d L L' R R' e f c on s z = record {
-  s = z .s;
-  o = z .o;
-  pair = record {
-    left = same-stores W (L c) (L' c) (e c on) (z .s) (z .pair .left);
-    corner = z .pair .corner;
-    right = same-stores W (R (beside d c (z .s))) (R' (beside d c (z .s))) (f (beside d c (z .s)) (z .pair .corner)) (z .o) (z .pair .right);
-    box = z .pair .box;
-  };
-  fits = z .fits;
-}
+    same-work W H n before after after' k k' (λ t c h on. list-unique W (slot W H after t c) (slot W H after' t c) (l t h c on) (l' t h c on))
 
 module _ (W H : ℕ) (S : ℕ → Rectangle → Type 0) (node : ℕ → Tree) (n p : ℕ) (tree : Tree)
     (parts : (u : Tree) → Part u tree → (position u < n) × (u ≡ node (position u))) (before after after' : List ℕ)
     (rel : Relisted W H S node n p before after) (rel' : Relisted W H S node n p before after') where
   abbrev SameSlots : Tree → Type 0
-  SameSlots u = (c : Corner) → CornerOn W H c → (j : ℕ) → j < W → slot W H after (position u) c j ≡ slot W H after' (position u) c j
+  SameSlots u = Agree W H (slot W H after (position u)) (slot W H after' (position u))
 
   off-slots : (u : Tree) → Part u tree → (So (spans u p) → ⊥) → SameSlots u
-  off-slots u q o c on j h =
+  off-slots u q o = record { at = λ c on j h.
       let (b, e) = parts u q in let o' : So (spans (node (position u)) p) → ⊥ = rw e at o in
-      rel .off (position u) c b on o' j h ∙ sym (rel' .off (position u) c b on o' j h)
+      rel .off (position u) c b on o' j h ∙ sym (rel' .off (position u) c b on o' j h) }
 
   way-slots : (u : Tree) → Part u tree → So (spans u p) → ((c : Corner) → CornerOn W H c → (s : Shape) → Relists W H S after u c s ↔ Relists W H S after' u c s) → SameSlots u
-  way-slots u q i f c on =
+  way-slots u q i f = record { at = λ c on.
       let (b, e) = parts u q in let l = rw (← e) at (rel .way (position u) c b on (rw e at i)) in let l' = rw (← e) at (rel' .way (position u) c b on (rw e at i)) in
-      list-unique W (slot W H after (position u) c) (slot W H after' (position u) c) (same-list W _ (slot W H after (position u) c) (λ j h. refl) (f c on) l) l'
+      list-unique W (slot W H after (position u) c) (slot W H after' (position u) c) (same-list W _ (slot W H after (position u) c) (λ j h. refl) (f c on) l) l' }
 
   same-slots : (u : Tree) → Part u tree → SameSlots u
   same-slots (leaf t k) q = ⊎-elim (λ i. way-slots (leaf t k) q i (λ c on s. (λ z. z, λ z. z))) (off-slots (leaf t k) q) (know (spans (leaf t k) p))
@@ -123,13 +106,12 @@ module _ (W H : ℕ) (S : ℕ → Rectangle → Type 0) (node : ℕ → Tree) (n
       let x = same-slots l (part-left q) in let y = same-slots r (part-right q) in
       ⊎-elim
       (λ i. way-slots (cut t d l r) q i (λ c on s. (
-        same-paired W H d (slot W H after (position l)) (slot W H after' (position l)) (slot W H after (position r)) (slot W H after' (position r)) x y c on s,
-        same-paired W H d (slot W H after' (position l)) (slot W H after (position l)) (slot W H after' (position r)) (slot W H after (position r))
-        (λ c on j h. sym (x c on j h)) (λ c on j h. sym (y c on j h)) c on s,
+        paired-agree W H d x y c on s,
+        paired-agree W H d (agree-back x) (agree-back y) c on s,
       ))) (off-slots (cut t d l r) q) (know (spans (cut t d l r) p))
 
   -- two relistings of the same bytes leave the same bytes, whoever wrote them
   pub relisted-once : ((t : ℕ) → t < n → Part (node t) tree × (position (node t) ≡ t)) → after ≡ after'
   relisted-once nodes =
       same-work W H n before after after' (rel .past) (rel' .past)
-      (λ t c h on j k. let (q, e) = nodes t h in rw e at (same-slots (node t) q c on j k))
+      (λ t c h on j k. let (q, e) = nodes t h in rw e at (same-slots (node t) q .at c on j k))

@@ -12,3 +12,4 @@ pub mod Bytes
 pub mod Check
 pub mod Reply
 pub mod Test
+pub mod Bench

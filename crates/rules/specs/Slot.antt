@@ -38,10 +38,12 @@ pub record Stores (W : ℕ) (bytes : ℕ → ℕ) (s : Shape) : Type 0 where
 abbrev pub IsListOf : ℕ → (ℕ → ℕ) → (Shape → Type 0) → Type 0
 IsListOf W bytes P = (s : Shape) → Stores W bytes s ↔ Undominated P s
 
--- The slots are the full lists of the nodes below n: at every corner of the chip each node's slot is its list.
+-- the slots of a tree are its lists, at every corner of the chip; the full lists of the nodes below n
+abbrev pub ListsAt : ℕ → ℕ → (ℕ → Rectangle → Type 0) → (Corner → ℕ → ℕ) → Tree → Type 0
+ListsAt W H Suits slots t = (c : Corner) → CornerOn W H c → IsListOf W (slots c) (ShapeAt W H Suits t c)
+
 abbrev pub FullLists : ℕ → ℕ → (ℕ → Rectangle → Type 0) → (ℕ → Tree) → ℕ → (ℕ → Corner → ℕ → ℕ) → Type 0
-FullLists W H Suits node n slots =
-    (t : ℕ) (c : Corner) → t < n → CornerOn W H c → IsListOf W (slots t c) (ShapeAt W H Suits (node t) c)
+FullLists W H Suits node n slots = (t : ℕ) → t < n → ListsAt W H Suits (slots t) (node t)
 
 -- "bytes after them are never touched"
 pub record PastKept (size : ℕ) (before after : List ℕ) : Type 0 where
