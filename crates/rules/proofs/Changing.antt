@@ -85,9 +85,11 @@ module _ {p : ℕ} {d d' : Design} (L : AlikeDesigns p d d') where
       → (us : List Tree) × Reading (d' .modules) (tokenAt d') n us × AllAlike p d d' ts us
   alike-read none-read h = ([], none-read, none)
   alike-read (module-read {n = n} {k = k} r e b f) h =
-      let (us, s, A) = alike-read r (omega arith) in let q = L .count in
-      (leaf n k ∷ us, module-read s (L .modules n k e) (omega arith) (λ t. f (alike-stands A k ∙ t)),
-        more (leaves (L .needs n k (omega arith) e)) A)
+      let (us, s, A) = alike-read r (omega arith) in let q = L .count in (
+        leaf n k ∷ us,
+        module-read s (L .modules n k e) (omega arith) (λ t. f (alike-stands A k ∙ t)),
+        more (leaves (L .needs n k (omega arith) e)) A,
+      )
   alike-read (cut-read {n = n} {d = c} r e) h = let (us, s, A) = alike-read r (omega arith) in join s A
     where
       join : {l r : Tree} {ts us : List Tree} → Reading (d' .modules) (tokenAt d') n us → AllAlike p d d' (r ∷ (l ∷ ts)) us
@@ -208,8 +210,11 @@ module _ (d : Design) (lawful : LawfulDesign d) where
   unfolding changed namesPlace withinLimits
   edit-limits (Change k n) s =
       let t = simp and-iff at (lawful-tree d lawful .limits) in
-      simp and-iff (t .0, all-iff (d .modules) (λ j. lawfulNeed (getD (set (d .needs) k n) j noNeed)) .1 (λ j h.
-        still j (all-iff (d .modules) (λ j. lawfulNeed (needAt d j)) .0 (t .1) j h) (after-set (d .needs) k j n noNeed)))
+      simp and-iff (
+        t .0,
+        all-iff (d .modules) (λ j. lawfulNeed (getD (set (d .needs) k n) j noNeed)) .1 (λ j h.
+            still j (all-iff (d .modules) (λ j. lawfulNeed (needAt d j)) .0 (t .1) j h) (after-set (d .needs) k j n noNeed)),
+      )
     where
       still : (j : ℕ) → So (lawfulNeed (needAt d j)) → {v : Need} → AfterSet (d .needs) k j n noNeed v → So (lawfulNeed v)
       still j t (kept q) = rw q t

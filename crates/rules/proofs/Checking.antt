@@ -31,7 +31,7 @@ pub on-chip-iff : (W H : ℕ) (r : Rectangle) → So (isOnChip W H r) ↔ OnChip
 unfolding isOnChip
 on-chip-iff W H r = (
   λ t. let s = simp test-iffs at t in record { wide = s .0 .0 .0; high = s .0 .0 .1; columns = s .0 .1; rows = s .1 },
-  λ o. simp test-iffs (((o .wide, o .high), o .columns), o .rows)
+  λ o. simp test-iffs (((o .wide, o .high), o .columns), o .rows),
 )
 
 if-both : (a b c : Bool) → So (not (a && b) || c) ↔ (So a → So b → So c)
@@ -44,9 +44,9 @@ pub kept-iff : (m : ℕ) (d : Direction) (l r : Tree) (p : Placement) → ((i : 
 unfolding isKept
 kept-iff m d l r p f g = (
   λ t i j a b. order i j .0 (if-both (has l i) (has r j) (before i j) .0
-    (all-iff m (test i) .0 (all-iff m (λ i. all m (test i)) .0 t i (f i a)) j (g j b)) a b),
+      (all-iff m (test i) .0 (all-iff m (λ i. all m (test i)) .0 t i (f i a)) j (g j b)) a b),
   λ k. all-iff m (λ i. all m (test i)) .1 λ i h. all-iff m (test i) .1 λ j h'.
-    if-both (has l i) (has r j) (before i j) .1 (λ a b. order i j .1 (k i j a b))
+      if-both (has l i) (has r j) (before i j) .1 (λ a b. order i j .1 (k i j a b)),
 )
   where
     before : ℕ → ℕ → Bool
@@ -131,7 +131,7 @@ module _ (d : Design) (lawful : LawfulDesign d) (p : Placement) where
       go (leaf s k) q = (λ _. tt, λ _. refl)
       go (cut s c l r) q =
           let below : (i : ℕ) → So (has l i) ⊎ So (has r i) → i < d .modules =
-              λ i t. lawful-tree d lawful .modules i .0 (part-has q i (or-iff (has l i) (has r i) .1 t)) in
+          λ i t. lawful-tree d lawful .modules i .0 (part-has q i (or-iff (has l i) (has r i) .1 t)) in
           kept-iff (d .modules) c l r p (λ i t. below i (inl t)) (λ i t. below i (inr t))
 
   judged-cuts : ((k : ℕ) → k < d .modules → Fine d p k) → Judged d p (judgedCuts d p)
@@ -157,9 +157,9 @@ module _ (d : Design) (lawful : LawfulDesign d) (p : Placement) where
     where
       go : (r : ℕ) → Fault (λ k. isOn d (p k) && isSuited d k (p k)) (d .modules) r
           → Judged d p (elim (ltb r (d .modules)) as (λ _. Reply) [
-              true ↦ elim (isOn d (p r)) as (λ _. Reply) [ true ↦ Refused (ShortOfNeed r) | false ↦ Refused (OffTheChip r) ]
+            | true ↦ elim (isOn d (p r)) as (λ _. Reply) [ true ↦ Refused (ShortOfNeed r) | false ↦ Refused (OffTheChip r) ]
             | false ↦ judgedCuts d p
-            ])
+          ])
       go r (first e x before) = rw e (fault (isOn d (p r)) refl)
         where
           h : r < d .modules
@@ -220,7 +220,7 @@ module _ (d : Design) (lawful : LawfulDesign d) (rows : List ℕ) where
       ↔ ((4 * d .modules ≤ length rows) × Lawful (d .width .0) (d .height .0) (SuitsOf d) (root d) (fromRows rows))
   passes-iff = (
     λ e. let (h, j) = judged Done (λ q. let z : _≡_ {A = ℕ} 0 1 = cc in omega arith) e in (h, to j),
-    λ t. back (verdict-judged (t .0)) (t .1)
+    λ t. back (verdict-judged (t .0)) (t .1),
   )
     where
       has-iff : (k : ℕ) → So (has (root d) k) ↔ (k < d .modules)

@@ -1,7 +1,7 @@
 -- Choosing the root's shape and, at a cut, the first pair: the computed choices are the ones that 01 words, and the only ones.
 -- Assumes nothing.
 use mathlib.Core.Path.{_≡_, refl, sym, _∙_, ap}
-use mathlib.Core.Logic.{_⊎_, inl, inr, _↔_}
+use mathlib.Core.Logic.{_⊎_, inl, inr, ⊎-elim, _↔_}
 use mathlib.Core.Bool.{Bool, true, false, So}
 use Prim.Native.Nat.{ℕ, zero, suc, _-_, _*_, _≤_, _<_}
 use native.Mathlib.Omega.{arith}
@@ -93,6 +93,13 @@ chooses W g = go (bestWidth g W) refl (best-is g W)
             let p = z .wide in let q = z .within in let r = z .high in let y = z .byte in
             let e2 : suc (o .w .0 - 1) ≡ o .w .0 = omega arith in
             let u = rw (e2, y) at (b (o .w .0 - 1) (omega arith) (omega arith)) in (u .0, λ v. let n = u .1 v in omega arith)
+
+pub chooses-none : (W : ℕ) (g : ℕ → ℕ) → bestWidth g W ≡ 0 → Empty W g
+chooses-none W g e = ⊎-elim (λ z. z .1) (λ ch. let p = ch .stored .wide in absurd (omega arith)) (chooses W g)
+
+pub chooses-this : (W : ℕ) (g : ℕ → ℕ) (s : Shape) → 1 ≤ s .w .0 → bestWidth g W ≡ s .w .0 → g (s .w .0 - 1) ≡ s .h .0 → Chosen W g s
+chooses-this W g s p e h =
+    ⊎-elim (λ z. let q = z .0 in absurd (omega arith)) (λ ch. rw (same-shape _ s e (ap (λ w. g (w - 1)) e ∙ h)) at ch) (chooses W g)
 
 -- a slot holds one shape of each width
 pub same-width : (W : ℕ) (g : ℕ → ℕ) (s o : Shape) → Stores W g s → Stores W g o → s .w .0 ≡ o .w .0 → s ≡ o

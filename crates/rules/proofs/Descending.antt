@@ -55,10 +55,13 @@ module _ (W H : ℕ) (S : ℕ → Rectangle → Type 0) (slots : ℕ → Corner 
         let s = leftShape W H d L R c box in let o = rightShape W H d L R c box in
         let (g1, g2) = and-iff (hasPair W H d L R c box && goesDown W H suits slots l c s) (goesDown W H suits slots r (beside d c s) o) .0 g in
         let (g0, g1') = and-iff (hasPair W H d L R c box) (goesDown W H suits slots l c s) .0 g1 in
-        let p = laid W H slots l c s in let q = laid W H slots r (beside d c s) o in
-        (s, o, takes W H d L R c box g0,
-        down-same l c s p (merge l p q) (λ k i. sym (merge-left l p q k i)) (laid-down l ol c s g1'),
-        down-same r (beside d c s) o q (merge l p q) (λ k i. sym (merge-right l r p q k apart i)) (laid-down r or (beside d c s) o g2))
+        let p = laid W H slots l c s in let q = laid W H slots r (beside d c s) o in (
+          s,
+          o,
+          takes W H d L R c box g0,
+          down-same l c s p (merge l p q) (λ k i. sym (merge-left l p q k i)) (laid-down l ol c s g1'),
+          down-same r (beside d c s) o q (merge l p q) (λ k i. sym (merge-right l r p q k apart i)) (laid-down r or (beside d c s) o g2),
+        )
 
     -- and whatever goes down is the computed rectangles
     pub down-laid : (t : Tree) → Once t → (c : Corner) (s : Shape) (p : Placement) → Down W H S slots t c s p
@@ -70,10 +73,11 @@ module _ (W H : ℕ) (S : ℕ → Rectangle → Type 0) (slots : ℕ → Corner 
         let s = leftShape W H d L R c box in let o = rightShape W H d L R c box in
         let g = pair-found W H d L R c box s' o' (x .pair) in
         let (es, eo) = taken-once W H d L R c box s' o' s o x (takes W H d L R c box g) in
-        let (gl, el) = down-laid l ol c s p (rw es at y) in let (gr, er) = down-laid r or (beside d c s) o p (rw (es, eo) at z) in
-        (and-iff (hasPair W H d L R c box && goesDown W H suits slots l c s) (goesDown W H suits slots r (beside d c s) o) .1
-        (and-iff (hasPair W H d L R c box) (goesDown W H suits slots l c s) .1 (g, gl), gr),
-        λ k i. either k (laid W H slots l c s) (laid W H slots r (beside d c s) o) (el k) (er k) (or-iff (has l k) (has r k) .0 i))
+        let (gl, el) = down-laid l ol c s p (rw es at y) in let (gr, er) = down-laid r or (beside d c s) o p (rw (es, eo) at z) in (
+          and-iff (hasPair W H d L R c box && goesDown W H suits slots l c s) (goesDown W H suits slots r (beside d c s) o) .1
+              (and-iff (hasPair W H d L R c box) (goesDown W H suits slots l c s) .1 (g, gl), gr),
+          λ k i. either k (laid W H slots l c s) (laid W H slots r (beside d c s) o) (el k) (er k) (or-iff (has l k) (has r k) .0 i),
+        )
       where
         either : (k : ℕ) (a b : Placement) → (So (has l k) → p k ≡ a k) → (So (has r k) → p k ≡ b k) → So (has l k) ⊎ So (has r k) → p k ≡ merge l a b k
         either k a b f g (inl i) = f i ∙ sym (merge-left l a b k i)
@@ -139,7 +143,8 @@ module _ {W H : ℕ} {S : ℕ → Rectangle → Type 0} where
         let ll = own l (in-left whole) in let lr = own r (in-right whole) in
         let q = pairings-list-the-cut dec t d l r L R ll lr c box .1 z .is in
         let g = pair-found W H d L R c box (q .s) (q .o) (q .pair) in let k = takes W H d L R c box g .pair in
-        and-iff (hasPair W H d L R c box && goesDown W H suits slots l c s) (goesDown W H suits slots r (beside d c s) o) .1
-        (and-iff (hasPair W H d L R c box) (goesDown W H suits slots l c s) .1
-        (g, own-goes-down slots l (λ u q. own u (in-left q)) c s on (ll c on s .0 (k .left))),
-        own-goes-down slots r (λ u q. own u (in-right q)) (beside d c s) o (k .corner) (lr (beside d c s) (k .corner) o .0 (k .right)))
+        and-iff (hasPair W H d L R c box && goesDown W H suits slots l c s) (goesDown W H suits slots r (beside d c s) o) .1 (
+          and-iff (hasPair W H d L R c box) (goesDown W H suits slots l c s) .1
+              (g, own-goes-down slots l (λ u q. own u (in-left q)) c s on (ll c on s .0 (k .left))),
+          own-goes-down slots r (λ u q. own u (in-right q)) (beside d c s) o (k .corner) (lr (beside d c s) (k .corner) o .0 (k .right)),
+        )

@@ -76,14 +76,24 @@ module _ {W H : ℕ} {P Q : Rectangle → Type 0} {F G : Test} (f : Growing W H 
   joined-bounds : (d : Direction) (b : Rectangle) → So (joined d F G (left b) (bottom b) (right b) (top b)) → Bounds d P Q b
   joined-bounds Vertical b j =
       let (m, s, t) = joined-out Vertical F G (left b) (bottom b) (right b) (top b) j in let u = f .solid _ _ _ _ s in let v = g .solid _ _ _ _ t in
-      let p = room (left b) (bottom b) m (top b) in let q = room m (bottom b) (right b) (top b) in
-      (p, q, says-room F x _ _ _ _ (omega arith) (omega arith) s, says-room G y _ _ _ _ (omega arith) (omega arith) t, omega arith,
-      same-sides b (bounding p q) (omega arith) (omega arith) (omega arith) (omega arith))
+      let p = room (left b) (bottom b) m (top b) in let q = room m (bottom b) (right b) (top b) in (
+        p,
+        q,
+        says-room F x _ _ _ _ (omega arith) (omega arith) s,
+        says-room G y _ _ _ _ (omega arith) (omega arith) t,
+        omega arith,
+        same-sides b (bounding p q) (omega arith) (omega arith) (omega arith) (omega arith),
+      )
   joined-bounds Horizontal b j =
       let (m, s, t) = joined-out Horizontal F G (left b) (bottom b) (right b) (top b) j in let u = f .solid _ _ _ _ s in let v = g .solid _ _ _ _ t in
-      let p = room (left b) (bottom b) (right b) m in let q = room (left b) m (right b) (top b) in
-      (p, q, says-room F x _ _ _ _ (omega arith) (omega arith) s, says-room G y _ _ _ _ (omega arith) (omega arith) t, omega arith,
-      same-sides b (bounding p q) (omega arith) (omega arith) (omega arith) (omega arith))
+      let p = room (left b) (bottom b) (right b) m in let q = room (left b) m (right b) (top b) in (
+        p,
+        q,
+        says-room F x _ _ _ _ (omega arith) (omega arith) s,
+        says-room G y _ _ _ _ (omega arith) (omega arith) t,
+        omega arith,
+        same-sides b (bounding p q) (omega arith) (omega arith) (omega arith) (omega arith),
+      )
 
 module _ {W H : ℕ} {S : ℕ → Rectangle → Type 0} {F : ℕ → Test} (dec : Decides W H S F) where
   -- 01's shapes, and document 000's realizations, are the rooms that fit

@@ -39,7 +39,7 @@ pub corner-zero : (d : Design) → LawfulDesign d → CornerOn (d .width .0) (d 
 unfolding withinLimits inRange
 corner-zero d lawful = let h = simp test-iffs at (lawful-tree d lawful .limits) in record { column = h .0 .0 .0 .0 .0 .0; row = h .0 .0 .0 .0 .1 .0 }
 
-suited-decides : (d : Design) (k : ℕ) (r : Rectangle) → SuitsOf d k r ↔ So (isSuited d k r)
+pub suited-decides : (d : Design) (k : ℕ) (r : Rectangle) → SuitsOf d k r ↔ So (isSuited d k r)
 suited-decides d k r = let e = at-most-iff (needAt d k) (holds (chipOf d) r) in (e .1, e .0)
 
 module _ (d : Design) (lawful : LawfulDesign d) (slots : ℕ → Corner → ℕ → ℕ) where
@@ -79,9 +79,10 @@ module _ (d : Design) (lawful : LawfulDesign d) (slots : ℕ → Corner → ℕ 
     -- from the chosen shape one can go down, and whoever does has the promised floorplan
     pub goes-down : (s : Shape) → Stores (d .width .0) (rootSlot d slots) s → (p : Placement) × GoesDown d slots s p
     goes-down s z =
-        let g = own-goes-down (design-decides d) (isSuited d) (suited-decides d) slots (root d) (own-every own) (corner 0 0) s (corner-zero d lawful) (root-listed s .0 z) in
-        (laid (d .width .0) (d .height .0) slots (root d) (corner 0 0) s,
-        laid-down (d .width .0) (d .height .0) (SuitsOf d) slots (isSuited d) (suited-decides d) (root d) (lawful-tree d lawful .once) (corner 0 0) s g)
+        let g = own-goes-down (design-decides d) (isSuited d) (suited-decides d) slots (root d) (own-every own) (corner 0 0) s (corner-zero d lawful) (root-listed s .0 z) in (
+          laid (d .width .0) (d .height .0) slots (root d) (corner 0 0) s,
+          laid-down (d .width .0) (d .height .0) (SuitsOf d) slots (isSuited d) (suited-decides d) (root d) (lawful-tree d lawful .once) (corner 0 0) s g,
+        )
 
     pub chosen-floorplan : (s : Shape) → Chosen (d .width .0) (rootSlot d slots) s → (p : Placement) → GoesDown d slots s p → Floorplan d s p
     chosen-floorplan s ch p down =

@@ -17,3 +17,4 @@ pub mod Checking
 pub mod Changing
 pub mod Relisting
 pub mod Working
+pub mod Bench

@@ -4,7 +4,7 @@ use mathlib.Core.Path.{_≡_, refl}
 use mathlib.Core.Logic.{_↔_}
 use mathlib.Core.Bool.{Bool, true, false, So}
 use mathlib.Core.List.{[], _∷_}
-use Prim.Native.Nat.{ℕ, suc, _≤_, _<_}
+use Prim.Native.Nat.{ℕ, suc, _≤_, _<_, _-_}
 use native.Mathlib.Omega.{arith}
 use native.Mathlib.Decide.{decLt}
 use Rattle.rules.specs.declared.Token.the-variants.{Module}
@@ -95,6 +95,9 @@ module _ (d : Design) (lawful : LawfulDesign d) where
 
   pub root-position : suc (position (root d)) ≡ nodes d
   root-position = last-position (lawful-tree d lawful .reading)
+
+  pub last-node : nodes d - 1 < nodes d
+  last-node = let e = root-position in omega arith
 
   -- what holds of each node holds of each part of the root, and back
   pub by-nodes : (P : Tree → Type 0) → ((u : Tree) → Part u (root d) → P u) ↔ ((t : ℕ) → t < nodes d → P (nodeAt d t))

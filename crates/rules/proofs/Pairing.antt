@@ -132,18 +132,26 @@ module _ (W H : ℕ) (L R : Corner → ℕ → ℕ) (c : Corner) (whole : Shape)
       let p = z .pair in let ew : z .s .w .0 + z .o .w .0 ≡ whole .w .0 = ap (λ n. n .w .0) (p .box) in
       let eh : max (z .s .h .0) (z .o .h .0) ≡ whole .h .0 = ap (λ n. n .h .0) (p .box) in
       let k = p .corner .column in let q = z .fits .columns in let q' = z .fits .rows in let v = p .right .wide in
-      let e : c .x .0 + whole .w .0 ≡ c .x .0 + z .s .w .0 + z .o .w .0 = omega arith in
-      (c .x .0 + z .s .w .0, c .y .0 + z .s .h .0, c .y .0 + z .o .h .0,
-      stored-iff W H (grid L) (c .x .0) (c .y .0) (z .s) .1 (p .left, omega arith, omega arith),
-      rw e (stored-iff W H (grid R) (c .x .0 + z .s .w .0) (c .y .0) (z .o) .1 (p .right, omega arith, omega arith)), omega arith)
+      let e : c .x .0 + whole .w .0 ≡ c .x .0 + z .s .w .0 + z .o .w .0 = omega arith in (
+        c .x .0 + z .s .w .0,
+        c .y .0 + z .s .h .0,
+        c .y .0 + z .o .h .0,
+        stored-iff W H (grid L) (c .x .0) (c .y .0) (z .s) .1 (p .left, omega arith, omega arith),
+        rw e (stored-iff W H (grid R) (c .x .0 + z .s .w .0) (c .y .0) (z .o) .1 (p .right, omega arith, omega arith)),
+        omega arith,
+      )
   paired-beside Horizontal z =
       let p = z .pair in let ew : max (z .s .w .0) (z .o .w .0) ≡ whole .w .0 = ap (λ n. n .w .0) (p .box) in
       let eh : z .s .h .0 + z .o .h .0 ≡ whole .h .0 = ap (λ n. n .h .0) (p .box) in
       let k = p .corner .row in let q = z .fits .columns in let q' = z .fits .rows in let v = p .right .high in
-      let e : c .y .0 + whole .h .0 ≡ c .y .0 + z .s .h .0 + z .o .h .0 = omega arith in
-      (c .y .0 + z .s .h .0, c .x .0 + z .s .w .0, c .x .0 + z .o .w .0,
-      stored-iff W H (grid L) (c .x .0) (c .y .0) (z .s) .1 (p .left, omega arith, omega arith),
-      rw e (stored-iff W H (grid R) (c .x .0) (c .y .0 + z .s .h .0) (z .o) .1 (p .right, omega arith, omega arith)), omega arith)
+      let e : c .y .0 + whole .h .0 ≡ c .y .0 + z .s .h .0 + z .o .h .0 = omega arith in (
+        c .y .0 + z .s .h .0,
+        c .x .0 + z .s .w .0,
+        c .x .0 + z .o .w .0,
+        stored-iff W H (grid L) (c .x .0) (c .y .0) (z .s) .1 (p .left, omega arith, omega arith),
+        rw e (stored-iff W H (grid R) (c .x .0) (c .y .0 + z .s .h .0) (z .o) .1 (p .right, omega arith, omega arith)),
+        omega arith,
+      )
 
   beside-paired : (k : Direction) → BesideRooms k → Paired W H k L R c whole
   unfolding Beside
@@ -220,5 +228,5 @@ module _ {W H : ℕ} {S : ℕ → Rectangle → Type 0} {F : ℕ → Test} (dec 
   pairings-list-the-cut t k l r L R x y c s =
       let p = paired-minimal W H k L R c s in let m = minimal-listed dec (cut t k l r) c s in
       let q = lemma-2 k (fits-growing F (dec .growing) l) (fits-growing F (dec .growing) r) (stored-lists L l x) (stored-lists R r y)
-          (c .x .0) (c .y .0) (c .x .0 + s .w .0) (c .y .0 + s .h .0) in
+      (c .x .0) (c .y .0) (c .x .0 + s .w .0) (c .y .0 + s .h .0) in
       (λ u. m .0 (q .0 (p .1 u)), λ u. p .0 (q .1 (m .1 u)))

@@ -208,8 +208,9 @@ module _ {W H : ℕ} {Suits : ℕ → Rectangle → Type 0} where
         let (m, u, v) = joined-out d (fits F l) (fits F r) a c b e s in
         let (p, x) = fits-placed l (o .0) a c (across d m b) (across d e m) u in
         let (q, y) = fits-placed r (o .1) (across d m a) (across d c m) b e v in
-        let h = line-in d (fits-growing F (laws .growing) l) (fits-growing F (laws .growing) r) a c b e m u v in
-        (merge l p q,
-        both-placed t d l r (merge l p q) a c b e m (h .0) (h .1)
-        (same-placed l p (merge l p q) a c (across d m b) (across d e m) (λ k w. sym (merge-left l p q k w)) x)
-        (same-placed r q (merge l p q) (across d m a) (across d c m) b e (λ k w. sym (merge-right l r p q k (o .2) w)) y))
+        let h = line-in d (fits-growing F (laws .growing) l) (fits-growing F (laws .growing) r) a c b e m u v in (
+          merge l p q,
+          both-placed t d l r (merge l p q) a c b e m (h .0) (h .1)
+              (same-placed l p (merge l p q) a c (across d m b) (across d e m) (λ k w. sym (merge-left l p q k w)) x)
+              (same-placed r q (merge l p q) (across d m a) (across d c m) b e (λ k w. sym (merge-right l r p q k (o .2) w)) y),
+        )

@@ -32,9 +32,14 @@ pub realizes-same : (W H : ℕ) {S S' : ℕ → Rectangle → Type 0} (t : Tree)
     → (r : Rectangle) → Realizes W H S t r → Realizes W H S' t r
 unfolding Realizes has
 realizes-same W H (leaf t k) f r (o, s) = (o, f k r (eqb-iff k k .1 refl) s)
-realizes-same W H (cut t d l r) f b (p, q, x, y, o, e) =
-    (p, q, realizes-same W H l (λ k b i. f k b (or-iff (has l k) (has r k) .1 (inl i))) p x,
-    realizes-same W H r (λ k b i. f k b (or-iff (has l k) (has r k) .1 (inr i))) q y, o, e)
+realizes-same W H (cut t d l r) f b (p, q, x, y, o, e) = (
+  p,
+  q,
+  realizes-same W H l (λ k b i. f k b (or-iff (has l k) (has r k) .1 (inl i))) p x,
+  realizes-same W H r (λ k b i. f k b (or-iff (has l k) (has r k) .1 (inr i))) q y,
+  o,
+  e,
+)
 
 -- a cut's children are parts of whatever it is a part of
 pub part-left : {t : ℕ} {d : Direction} {l r v : Tree} → Part (cut t d l r) v → Part l v
@@ -69,16 +74,17 @@ module _ {W H : ℕ} (S : ℕ → Rectangle → Type 0) {S' : ℕ → Rectangle 
       let x = relisted-lists l (part-left q) in let y = relisted-lists r (part-right q) in
       ⊎-elim
       (λ i c on s. let m = made-lists (cut t d l r) q i c on s in
-        let u = pairings-list-the-cut dec t d l r (slot W H work' (position l)) (slot W H work' (position r)) x y c s in (λ z. u .0 (m .0 z), λ z. m .1 (u .1 z)))
+      let u = pairings-list-the-cut dec t d l r (slot W H work' (position l)) (slot W H work' (position r)) x y c s in (λ z. u .0 (m .0 z), λ z. m .1 (u .1 z)))
       (kept-lists (cut t d l r) q) (know (spans (cut t d l r) p))
 
 -- off the way the two designs' shapes are the same
 off-same : (d d' : Design) (p : ℕ) (u u' : Tree) → chipOf d' ≡ chipOf d → Alike p d d' u u' → (So (spans u' p) → ⊥)
     → (c : Corner) (s : Shape) → ShapeAt (d .width .0) (d .height .0) (SuitsOf d) u c s ↔ ShapeAt (d .width .0) (d .height .0) (SuitsOf d') u' c s
 off-same d d' p u u' ec a o c s =
-    let (e, f) = alike-off a (λ i. o (rw (alike-spans a p) at i)) in
-    (λ z. rw (← e) (realizes-same (d .width .0) (d .height .0) u (λ k r i x. rw (ec, ← f k i) x) _ z),
-    λ z. realizes-same (d .width .0) (d .height .0) u (λ k r i x. rw (← ec, f k i) x) _ (rw (← e) at z))
+    let (e, f) = alike-off a (λ i. o (rw (alike-spans a p) at i)) in (
+      λ z. rw (← e) (realizes-same (d .width .0) (d .height .0) u (λ k r i x. rw (ec, ← f k i) x) _ z),
+      λ z. realizes-same (d .width .0) (d .height .0) u (λ k r i x. rw (← ec, f k i) x) _ (rw (← e) at z),
+    )
 
 -- relisting the way from an edited node to the root turns own lists of the old design into own lists of the new one
 pub relisted-own : (d : Design) (e : Edit) → LawfulDesign d → So (namesPlace d e) → (work work' : List ℕ) → OwnLists d (slotsOf d work) → EditedLists d e work work'
@@ -88,6 +94,6 @@ relisted-own d e lawful names work work' own rel =
     let d' = changed d e in let p = changedNode d e in let lawful' = edit-lawful d lawful e names in let k = edit-keeps d e in
     let kw : d' .width .0 ≡ d .width .0 = ap (λ w. w .0) (k .width) in let kh : d' .height .0 ≡ d .height .0 = ap (λ h. h .0) (k .height) in
     let lists = relisted-lists (SuitsOf d) (rw (kw, kh) at (design-decides d')) (nodeAt d) (nodeAt d') (nodes d) p (root d')
-        (λ u q. let (h, r) = part-node d' lawful' u q in (rw (k .nodes-same) at h, r))
-        (λ t h o. off-same d d' p (nodeAt d t) (nodeAt d' t) (k .chip) (edit-nodes d lawful e names t h) o) work work' own rel in
+    (λ u q. let (h, r) = part-node d' lawful' u q in (rw (k .nodes-same) at h, r))
+    (λ t h o. off-same d d' p (nodeAt d t) (nodeAt d' t) (k .chip) (edit-nodes d lawful e names t h) o) work work' own rel in
     rw (kw, kh) (λ t h c on. rw (node-position (node-at d' lawful' t h)) at (lists (nodeAt d' t) (node-part d' lawful' t h) c on))

@@ -70,7 +70,7 @@ minimal-below {W} {H} {F} {a} {c} G b d t =
     let (b', h, s, l) = first (λ i. F a c i d) b t in
     let (d', k, u, n) = first (λ j. F a c b' j) d s in
     let least : (b2 d2 : ℕ) → So (F a c b2 d2) → b2 ≤ b' → d2 ≤ d' → (b' ≤ b2) × (d' ≤ d2) = λ b2 d2 v p q.
-        (l b2 (G .rise b2 d2 b2 d v (le-refl b2) (omega arith) (omega arith) (omega arith)), n d2 (G .rise b2 d2 b' d2 v p (le-refl d2) (omega arith) (omega arith))) in
+    (l b2 (G .rise b2 d2 b2 d v (le-refl b2) (omega arith) (omega arith) (omega arith)), n d2 (G .rise b2 d2 b' d2 v p (le-refl d2) (omega arith) (omega arith))) in
     (b', d', record { is = u; least = least }, h, k)
 
 -- Lemma 1 of document 000: at a corner further down and left an undominated room ends no later

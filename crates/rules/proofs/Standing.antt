@@ -234,8 +234,11 @@ fair {m} (module-read {n = n} {k = k} {ts = ts} r e h f) = let F = fair r in rec
     low F j (inl s) = let q = eqb-iff j k .0 s in omega arith
     low F j (inr s) = F .below j s
 fair {m} (cut-read {n = n} {d = d} {l = a} {r = b} {ts = ts} r e) = let F = fair r in let o = F .once in record {
-  once = ((o .1 .0, o .0, λ k s t. o .2 k t (or-iff (has a k) (stands ts k) .1 (inl s))), o .1 .1,
-    λ k s t. apart o k t (or-iff (has a k) (has b k) .0 s));
+  once = (
+    (o .1 .0, o .0, λ k s t. o .2 k t (or-iff (has a k) (stands ts k) .1 (inl s))),
+    o .1 .1,
+    λ k s t. apart o k t (or-iff (has a k) (has b k) .0 s),
+  );
   below = λ k t. F .below k (rw (same k) t);
   size = let q = ap (count m) (fun-ext same) in omega (arith, F .size);
 }
@@ -262,8 +265,13 @@ one-stands m token ts h e = alone ts (fair (was-read (2 * m - 1) ts e))
     alone : (ts : List Tree) → Fair m (2 * m - 1) ts → (t : Tree) × (ts ≡ t ∷ []) × Once t × ((k : ℕ) → So (has t k) ↔ (k < m))
     alone [] F = absurd (omega arith)
     alone (t ∷ (u ∷ ts)) F = let q = count-most m (stands (t ∷ (u ∷ ts))) in absurd (omega arith)
-    alone (t ∷ []) F = (t, refl, F .once .0, λ k.
-        (λ s. F .below k (rw (alone-has (has t k)) s), λ l. rw (alone-has (has t k)) at (count-all m (stands (t ∷ [])) (omega arith) k l)))
+    alone (t ∷ []) F = (
+      t,
+      refl,
+      F .once .0,
+      λ k.
+          (λ s. F .below k (rw (alone-has (has t k)) s), λ l. rw (alone-has (has t k)) at (count-all m (stands (t ∷ [])) (omega arith) k l)),
+    )
       where
         alone-has : (b : Bool) → b || false ≡ b
         alone-has true = refl

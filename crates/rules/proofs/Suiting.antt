@@ -38,9 +38,10 @@ pub suits-decided : (C : Chip) (n : Need) (r : Rectangle)
 unfolding suitsRoom holds
 suits-decided C n r = (
   λ z. let (o, s) = z in simp test-iffs (omega (arith, o .wide, o .high, o .columns, o .rows, s .clbs, s .rams, s .multipliers)),
-  λ t. let h = simp test-iffs at t in
-      (record { wide = omega arith; high = omega arith; columns = omega arith; rows = omega arith },
-      record { clbs = omega arith; rams = omega arith; multipliers = omega arith }),
+  λ t. let h = simp test-iffs at t in (
+    record { wide = omega arith; high = omega arith; columns = omega arith; rows = omega arith },
+    record { clbs = omega arith; rams = omega arith; multipliers = omega arith },
+  ),
 )
 
 -- the checker's test of a need is 01's rule

@@ -91,14 +91,18 @@ module _ (W H : ℕ) (S : ℕ → Rectangle → Type 0) (node : ℕ → Tree) (n
   SameSlots u = Agree W H (slot W H after (position u)) (slot W H after' (position u))
 
   off-slots : (u : Tree) → Part u tree → (So (spans u p) → ⊥) → SameSlots u
-  off-slots u q o = record { at = λ c on j h.
-      let (b, e) = parts u q in let o' : So (spans (node (position u)) p) → ⊥ = rw e at o in
-      rel .off (position u) c b on o' j h ∙ sym (rel' .off (position u) c b on o' j h) }
+  off-slots u q o = record {
+    at = λ c on j h.
+        let (b, e) = parts u q in let o' : So (spans (node (position u)) p) → ⊥ = rw e at o in
+        rel .off (position u) c b on o' j h ∙ sym (rel' .off (position u) c b on o' j h);
+  }
 
   way-slots : (u : Tree) → Part u tree → So (spans u p) → ((c : Corner) → CornerOn W H c → (s : Shape) → Relists W H S after u c s ↔ Relists W H S after' u c s) → SameSlots u
-  way-slots u q i f = record { at = λ c on.
-      let (b, e) = parts u q in let l = rw (← e) at (rel .way (position u) c b on (rw e at i)) in let l' = rw (← e) at (rel' .way (position u) c b on (rw e at i)) in
-      list-unique W (slot W H after (position u) c) (slot W H after' (position u) c) (same-list W _ (slot W H after (position u) c) (λ j h. refl) (f c on) l) l' }
+  way-slots u q i f = record {
+    at = λ c on.
+        let (b, e) = parts u q in let l = rw (← e) at (rel .way (position u) c b on (rw e at i)) in let l' = rw (← e) at (rel' .way (position u) c b on (rw e at i)) in
+        list-unique W (slot W H after (position u) c) (slot W H after' (position u) c) (same-list W _ (slot W H after (position u) c) (λ j h. refl) (f c on) l) l';
+  }
 
   same-slots : (u : Tree) → Part u tree → SameSlots u
   same-slots (leaf t k) q = ⊎-elim (λ i. way-slots (leaf t k) q i (λ c on s. (λ z. z, λ z. z))) (off-slots (leaf t k) q) (know (spans (leaf t k) p))

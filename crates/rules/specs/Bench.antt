@@ -92,25 +92,25 @@ bytesEnding end = (1 ∷ 5 ∷ 6 ∷ 3 ∷ 0 ∷ 1 ∷ 2 ∷ 0 ∷ 0 ∷ 2 ∷ 2
 
 unfoldable pub table : List Example
 table =
-    lists E (corner 4 1) (shape 4 6 ∷ shape 5 5 ∷ []) -- P1
-    ∷ lists E (corner 10 0) (shape 3 12 ∷ shape 4 6 ∷ shape 5 4 ∷ shape 6 3 ∷ []) -- P2
-    ∷ lists E (corner 10 6) (shape 4 6 ∷ shape 5 4 ∷ shape 6 3 ∷ []) -- P3
-    ∷ contains E (rectangle 0 0 4 6) (need 12 2 2) -- P4
-    ∷ contains E (rectangle 0 1 2 4) (need 4 0 0) -- P5
-    ∷ contains E (rectangle 0 1 2 5) (need 5 1 0) -- P6
+    lists E (corner 4 1) (shape 4 6 ∷ shape 5 5 ∷ [])  -- P1
+    ∷ lists E (corner 10 0) (shape 3 12 ∷ shape 4 6 ∷ shape 5 4 ∷ shape 6 3 ∷ [])  -- P2
+    ∷ lists E (corner 10 6) (shape 4 6 ∷ shape 5 4 ∷ shape 6 3 ∷ [])  -- P3
+    ∷ contains E (rectangle 0 0 4 6) (need 12 2 2)  -- P4
+    ∷ contains E (rectangle 0 1 2 4) (need 4 0 0)  -- P5
+    ∷ contains E (rectangle 0 1 2 5) (need 5 1 0)  -- P6
     ∷ reads (bytesEnding (2 ∷ 3 ∷ 0 ∷ [])) (took D 19)
-    ∷ slotIs D 300 (0 ∷ 0 ∷ 0 ∷ 3 ∷ 0 ∷ []) -- P7
+    ∷ slotIs D 300 (0 ∷ 0 ∷ 0 ∷ 3 ∷ 0 ∷ [])  -- P7
     ∷ pairsTo D (0 ∷ 0 ∷ 0 ∷ 3 ∷ 0 ∷ [])
     ∷ plansTo D (shape 4 3) (rectangle 0 0 2 3 ∷ rectangle 2 0 2 3 ∷ [])
-    ∷ lists (changed D (Turn 2)) (corner 0 0) (shape 3 6 ∷ []) -- P8
+    ∷ lists (changed D (Turn 2)) (corner 0 0) (shape 3 6 ∷ [])  -- P8
     ∷ plansTo (changed D (Turn 2)) (shape 3 6) (rectangle 0 0 2 3 ∷ rectangle 0 3 3 3 ∷ [])
-    ∷ slotIs (changed D (Change 1 (need 4 0 1))) 300 (0 ∷ 0 ∷ 0 ∷ 4 ∷ 3 ∷ []) -- P9
+    ∷ slotIs (changed D (Change 1 (need 4 0 1))) 300 (0 ∷ 0 ∷ 0 ∷ 4 ∷ 3 ∷ [])  -- P9
     ∷ pairsTo (changed D (Change 1 (need 4 0 1))) (0 ∷ 0 ∷ 0 ∷ 4 ∷ 3 ∷ [])
     ∷ plansTo (changed D (Change 1 (need 4 0 1))) (shape 5 3) []
-    ∷ hasNone (changed D (Change 0 (need 2 3 0))) -- P10
-    ∷ lists four (corner 0 0) (shape 3 4 ∷ shape 4 3 ∷ []) -- P11
+    ∷ hasNone (changed D (Change 0 (need 2 3 0)))  -- P10
+    ∷ lists four (corner 0 0) (shape 3 4 ∷ shape 4 3 ∷ [])  -- P11
     ∷ plansTo four (shape 3 4) (rectangle 0 0 3 4 ∷ [])
-    ∷ reads (bytesEnding (2 ∷ 2 ∷ 0 ∷ [])) (refuse (BadToken 17)) -- P12
+    ∷ reads (bytesEnding (2 ∷ 2 ∷ 0 ∷ [])) (refuse (BadToken 17))  -- P12
     ∷ []
 
 unfoldable pub AllSay : List Example → Type 0

@@ -16,10 +16,10 @@ use Rattle.rules.specs.Design.{mostColumns, mostRows, lastKind, mostModu
 unfoldable pub numberBytes : ℕ → List ℕ
 numberBytes n =
     elim (ltb n 128) [
-      true ↦ n ∷ []
-    | false ↦ elim (ltb n 16384) [
-        true ↦ (128 + n % 128) ∷ (n / 128) ∷ []
-      | false ↦ (128 + n % 128) ∷ (128 + n / 128 % 128) ∷ (n / 16384) ∷ []
+      | true ↦ n ∷ []
+      | false ↦ elim (ltb n 16384) [
+        | true ↦ (128 + n % 128) ∷ (n / 128) ∷ []
+        | false ↦ (128 + n % 128) ∷ (128 + n / 128 % 128) ∷ (n / 16384) ∷ []
       ]
     ]
 
@@ -49,16 +49,16 @@ unfoldable pub secondByte : List ℕ → ℕ → ℕ → Took ℕ
 secondByte s at low =
     judged (ltb (at + 1) (length s)) (Unfinished at)
     (elim (ltb (getD s (at + 1) 0) 128) [
-      true ↦ judged (ltb 0 (getD s (at + 1) 0)) (Malformed at) (took (low + 128 * getD s (at + 1) 0) (at + 2))
-    | false ↦ thirdByte s at (low + 128 * (getD s (at + 1) 0 - 128))
+      | true ↦ judged (ltb 0 (getD s (at + 1) 0)) (Malformed at) (took (low + 128 * getD s (at + 1) 0) (at + 2))
+      | false ↦ thirdByte s at (low + 128 * (getD s (at + 1) 0 - 128))
     ])
 
 unfoldable pub numberAt : List ℕ → ℕ → Took ℕ
 numberAt s at =
     judged (ltb at (length s)) (Unfinished at)
     (elim (ltb (getD s at 0) 128) [
-      true ↦ took (getD s at 0) (at + 1)
-    | false ↦ secondByte s at (getD s at 0 - 128)
+      | true ↦ took (getD s at 0) (at + 1)
+      | false ↦ secondByte s at (getD s at 0 - 128)
     ])
 
 -- "Order: form number 1, W, H, B, W kinds, m, three needs for each module, 2m-1 tokens."

@@ -52,8 +52,8 @@ unfoldable pub judgedRows : Design → Placement → Reply
 judgedRows d p =
     let k = least (λ k. not (isOn d (p k) && isSuited d k (p k))) (d .modules) 0 in
     elim (ltb k (d .modules)) [
-      true ↦ elim (isOn d (p k)) [ true ↦ Refused (ShortOfNeed k) | false ↦ Refused (OffTheChip k) ]
-    | false ↦ judgedCuts d p
+      | true ↦ elim (isOn d (p k)) [ true ↦ Refused (ShortOfNeed k) | false ↦ Refused (OffTheChip k) ]
+      | false ↦ judgedCuts d p
     ]
 
 -- the design's own tests first, then 8
