@@ -8,6 +8,7 @@ pub mod Suiting
 pub mod Placing
 pub mod Listing
 pub mod Pairing
+pub mod Paper
 pub mod Choosing
 pub mod Descending
 pub mod Agreeing
