@@ -1,48 +1,40 @@
--- P1 to P12 hold. The computed lists, choices and readings are the table's figures, all at once by computation; and the laws turn what
--- was computed into what each row says of the rules. Assumes nothing.
+-- P1 to P12 hold: the laws turn the figures that were computed into what each row says of the rules. Assumes nothing.
 use mathlib.Core.Path.{_≡_, refl, sym, _∙_, ap}
 use mathlib.Core.Logic.{_⊎_, inl, inr, ⊎-elim, _↔_}
-use mathlib.Core.Bool.{Bool, true, false, _&&_, So}
+use mathlib.Core.Bool.{Bool, true, false, So}
 use mathlib.Core.List.{List, [], _∷_, _++_}
 use Prim.Native.Nat.{ℕ, zero, suc, _-_, _≤_, _<_}
 use native.Mathlib.Omega.{arith}
 use native.Mathlib.Decide.{ℕ-discrete}
-use lib.Dec.{leb, ltb, eqb}
+use lib.Dec.{eqb}
 use lib.ListN.{length, getD, List·getD-append, length-append}
 use lib.Seq.{getD-at}
 use borrow.Author.Tests.{eq-eqb, ne-eqb, eqb-true}
 use Rattle.rules.specs.declared.Corner.{Corner}
 use Rattle.rules.specs.declared.Shape.{Shape}
 use Rattle.rules.specs.declared.Rectangle.{Rectangle}
-use Rattle.rules.specs.declared.Direction.{Direction}
 use Rattle.rules.specs.declared.Design.{Design}
-use Rattle.rules.specs.declared.Reply.the-variants.{Done}
-use Rattle.rules.specs.Search.{any, all, least, count, total}
-use Rattle.rules.specs.Chip.{corner, shape, columnOf, coversBlock, heldBetween, holds}
-use Rattle.rules.specs.Tree.{Tree, leaf, cut, position, has, stands, joined, added, standing}
-use Rattle.rules.specs.Slot.{slotStart, Stores, ListsAt, CornerOn}
-use Rattle.rules.specs.Design.{needAt, nodes, nodeAt, root, chipOf, valueTest, withinLimits, inRange, lawfulNeed, rootSlot, SuitsOf, OwnLists}
-use Rattle.rules.specs.Edit.{changed}
+use Rattle.rules.specs.Chip.{corner, shape}
+use Rattle.rules.specs.Tree.{Tree, leaf, cut, position}
+use Rattle.rules.specs.Slot.{Stores, ListsAt, CornerOn}
+use Rattle.rules.specs.Design.{nodes, nodeAt, root, rootSlot, SuitsOf, OwnLists}
 use Rattle.rules.specs.Check.{isSuited}
-use Rattle.rules.specs.Bytes.{designAt, formAt, limitedAt, numberAt, secondByte, thirdByte, kindsAt, needOf, needsAt, tokensAt, padded}
-use Rattle.rules.specs.Test.{Test, suitsRoom, parted, fits, lowest, listByte, stored, sideBySide, pairTest, bestWidth, meets, leftIndex, rightIndex, laid, merge}
-use Rattle.rules.specs.Bench.{Example, lists, contains, slotIs, pairsTo, plansTo, hasNone, reads, OneOf, PairsTo, Says, AllSay, E, D, four, table}
+use Rattle.rules.specs.Test.{stored}
+use Rattle.rules.specs.Bench.{Example, lists, contains, slotIs, pairsTo, plansTo, hasNone, reads, OneOf, PairsTo, Says, AllSay, table}
 use Rattle.rules.proofs.Searching.{test-iffs}
 use Rattle.rules.proofs.Standing.{Part}
 use Rattle.rules.proofs.Nodes.{lawful-tree, part-node, last-node}
 use Rattle.rules.proofs.Suiting.{design-decides}
 use Rattle.rules.proofs.Listing.{same-shape, same-list, list-bytes, list-unique}
-use Rattle.rules.proofs.Pairing.{grid, pairings-bytes}
+use Rattle.rules.proofs.Pairing.{pairings-bytes}
 use Rattle.rules.proofs.Agreeing.{Agree, agree-back, chosen-agree, paired-agree, down-agree}
 use Rattle.rules.proofs.Descending.{down-laid}
 use Rattle.rules.proofs.Choosing.{chooses-none, chooses-this}
 use Rattle.rules.proofs.Floorplans.{goes-down, no-placement, corner-zero, suited-decides}
+use Rattle.rules.specs.Figures.{widthsRise, tab, pick, bytesOf, leafTest, treeList, pairedList, computed, Pairs, Computes, AllCompute, table-computes}
 
--- the first n values of a function, as a list
-tab : {A : Type 0} → ℕ → (ℕ → A) → List A
-tab zero f = []
-tab (suc n) f = tab n f ++ (f n ∷ [])
 
+-- the list of a function's values
 length-tab : {A : Type 0} (n : ℕ) (f : ℕ → A) → length (tab n f) ≡ n
 unfolding tab
 length-tab zero f = refl
@@ -57,101 +49,14 @@ tab-at (suc n) f x j h = go (ℕ-discrete j n) (tab-at n f x j)
     go (yes e) ih = rw e (getD-at (tab n f) (f n) [] x n (length-tab n f))
     go (no e) ih = let l = length-tab n f in List·getD-append (tab n f) (f n ∷ []) x j (omega arith) ∙ ih (omega arith)
 
--- the bytes of a slot that holds these shapes, whose widths rise
-abbrev pick : Bool → ℕ → ℕ → ℕ
-pick b m n = elim b [ true ↦ m | false ↦ n ]
-
-bytesOf : List Shape → ℕ → ℕ
-bytesOf [] j = 0
-bytesOf (s ∷ ss) j = pick (eqb (s .w .0) (suc j)) (s .h .0) (bytesOf ss j)
-
-rising : ℕ → ℕ → List Shape → Bool
-rising W w [] = true
-rising W w (s ∷ ss) = ltb w (s .w .0) && leb (s .w .0) W && ltb 0 (s .h .0) && rising W (s .w .0) ss
-
--- a design's leaf tests and its computed lists
-leafTest : Design → ℕ → Test
-leafTest d k = suitsRoom (chipOf d) (needAt d k)
-
-treeList : Design → Tree → Corner → ℕ → ℕ
-treeList d t c = listByte (d .height .0) (fits (leafTest d) t) (c .x .0) (c .y .0)
-
-pairedList : Design → Direction → Tree → Tree → ℕ → ℕ
-pairedList d k l r = listByte (d .height .0) (pairTest k (d .width .0) (d .height .0) (grid (treeList d l)) (grid (treeList d r))) 0 0
-
-computed : Design → ℕ → Corner → ℕ → ℕ
-computed d t = treeList d (nodeAt d t)
-
-Pairs : Design → List ℕ → Tree → Type 0
-Pairs d bytes (leaf t k) = ⊥
-Pairs d bytes (cut t k l r) = tab (d .width .0) (pairedList d k l r) ≡ bytes
-
--- what is computed for each row
-Computes : Example → Type 0
-Computes (lists d c shapes) = (rising (d .width .0) 0 shapes ≡ true) × (tab (d .width .0) (treeList d (root d) c) ≡ tab (d .width .0) (bytesOf shapes))
-Computes (contains d r n) = holds (chipOf d) r ≡ n
-Computes (slotIs d start bytes) = (slotStart (d .width .0) (d .height .0) (nodes d - 1) (corner 0 0) ≡ start) × (tab (d .width .0) (treeList d (root d) (corner 0 0)) ≡ bytes)
-Computes (pairsTo d bytes) = (valueTest d ≡ Done) × Pairs d bytes (root d)
-Computes (plansTo d s rs) =
-    (valueTest d ≡ Done) × (bestWidth (rootSlot d (computed d)) (d .width .0) ≡ s .w .0) × (rootSlot d (computed d) (s .w .0 - 1) ≡ s .h .0)
-    × (leb 1 (s .w .0) && leb (length rs) (d .modules) ≡ true) × (tab (length rs) (laid (d .width .0) (d .height .0) (computed d) (root d) (corner 0 0) s) ≡ rs)
-Computes (hasNone d) = (valueTest d ≡ Done) × (bestWidth (rootSlot d (computed d)) (d .width .0) ≡ 0)
-Computes (reads s t) = designAt s ≡ t
-
-AllCompute : List Example → Type 0
-AllCompute [] = Unit {0}
-AllCompute (e ∷ es) = Computes e × AllCompute es
-
--- the test, computed
-table-computes : AllCompute table
-unfolding AllCompute Computes table tab bytesOf rising leafTest treeList pairedList computed Pairs
-    E D four padded changed
-    any all least count total columnOf coversBlock heldBetween holds has stands joined added standing
-    chipOf valueTest withinLimits inRange lawfulNeed designAt formAt limitedAt numberAt secondByte thirdByte kindsAt needOf needsAt tokensAt
-    suitsRoom parted fits lowest listByte stored sideBySide pairTest bestWidth meets leftIndex rightIndex laid merge
-table-computes = (
-  (refl, refl),
-  (
-    (refl, refl),
-    (
-      (refl, refl),
-      (
-        refl,
-        (
-          refl,
-          (
-            refl,
-            (
-              refl,
-              (
-                (refl, refl),
-                (
-                  (refl, refl),
-                  (
-                    (refl, refl, refl, refl, refl),
-                    (
-                      (refl, refl),
-                      ((refl, refl, refl, refl, refl), ((refl, refl), ((refl, refl), ((refl, refl, refl, refl, refl), ((refl, refl), ((refl, refl), ((refl, refl, refl, refl, refl), (refl, tt)))))))),
-                    ),
-                  ),
-                ),
-              ),
-            ),
-          ),
-        ),
-      ),
-    ),
-  ),
-)
-
 -- bytes that were computed are the figures
 tab-same : {A : Type 0} (n : ℕ) (f : ℕ → A) (l : List A) (x : A) → tab n f ≡ l → (j : ℕ) → j < n → f j ≡ getD l j x
 tab-same n f l x e j h = sym (tab-at n f x j h) ∙ ap (λ m. getD m j x) e
 
 -- a slot of shapes whose widths rise holds just these
-one-of-stored : (W w : ℕ) (ss : List Shape) → So (rising W w ss) → (s : Shape) → OneOf s ss
+one-of-stored : (W w : ℕ) (ss : List Shape) → So (widthsRise W w ss) → (s : Shape) → OneOf s ss
     → (w < s .w .0) × (s .w .0 ≤ W) × (0 < s .h .0) × (bytesOf ss (s .w .0 - 1) ≡ s .h .0)
-unfolding rising OneOf bytesOf
+unfolding widthsRise OneOf bytesOf
 one-of-stored W w [] t s z = absurd z
 one-of-stored W w (o ∷ ss) t s z = let (((p, q), r), u) = simp test-iffs at t in ⊎-elim (first p q r) (later p (one-of-stored W (o .w .0) ss u s)) z
   where
@@ -173,7 +78,7 @@ stored-one-of (o ∷ ss) j h p e = go (eqb (o .w .0) (suc j)) refl e (stored-one
     go true q e ih = inl (same-shape _ o (sym (eqb-true (o .w .0) (suc j) q)) (sym e))
     go false q e ih = inr (ih e)
 
-stores-one-of : (W : ℕ) (ss : List Shape) → So (rising W 0 ss) → (s : Shape) → Stores W (bytesOf ss) s ↔ OneOf s ss
+stores-one-of : (W : ℕ) (ss : List Shape) → So (widthsRise W 0 ss) → (s : Shape) → Stores W (bytesOf ss) s ↔ OneOf s ss
 stores-one-of W ss t s = (
   λ z. let p = z .wide in let q : shape (suc (s .w .0 - 1)) (s .h .0) ≡ s = same-shape _ s (omega arith) refl in
       rw q at (stored-one-of ss (s .w .0 - 1) (s .h .0) (z .high) (z .byte)),

@@ -16,15 +16,11 @@ use Rattle.rules.specs.Shape.{Undominated, Listed}
 use Rattle.rules.specs.Slot.{Stores, IsListOf, ListsAt}
 use Rattle.rules.specs.Choice.{pairing}
 use Rattle.rules.specs.Edit.{Paired}
-use Rattle.rules.specs.Test.{Test, Grid, turn, across, fits, listByte, stored, sideBySide, pairTest}
+use Rattle.rules.specs.Test.{Test, Grid, grid, turn, across, fits, listByte, stored, sideBySide, pairTest}
 use Rattle.rules.proofs.Searching.{test-iffs, search-iffs}
 use Rattle.rules.proofs.Rooms.{Passes, Rising, Minimal, same-minimal, turn-minimal, Beside, Lists, Pairings, lemma-2}
 use Rattle.rules.proofs.Fitting.{Decides, fits-growing}
 use Rattle.rules.proofs.Listing.{same-shape, bytes-minimal, minimal-undominated, minimal-listed}
-
--- the slots of a node, by column and row
-abbrev pub grid : (Corner → ℕ → ℕ) → Grid
-grid g x y = g (corner x y)
 
 -- a test that holds of rooms on the chip only
 pub record Solid (B D : ℕ) (F : Test) : Type 0 where

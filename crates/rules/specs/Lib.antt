@@ -13,3 +13,4 @@ pub mod Check
 pub mod Reply
 pub mod Test
 pub mod Bench
+pub mod Figures

@@ -10,7 +10,7 @@ use Rattle.rules.specs.declared.Shape.{Shape}
 use Rattle.rules.specs.declared.Rectangle.{Rectangle}
 use Rattle.rules.specs.declared.Need.{Need}
 use Rattle.rules.specs.Search.{any, least}
-use Rattle.rules.specs.Chip.{Chip, shape, rectangle, heldBetween}
+use Rattle.rules.specs.Chip.{Chip, corner, shape, rectangle, heldBetween}
 use Rattle.rules.specs.Tree.{Tree, leaf, cut, has, position}
 use Rattle.rules.specs.Placement.{Placement}
 use Rattle.rules.specs.Choice.{beside, pairing}
@@ -21,6 +21,10 @@ Test = ℕ → ℕ → ℕ → ℕ → Bool
 -- the bytes of a node's slots: column, row, place in the slot
 abbrev pub Grid : Type 0
 Grid = ℕ → ℕ → ℕ → ℕ
+
+-- the slots of a node, by column and row
+abbrev pub grid : (Corner → ℕ → ℕ) → Grid
+grid g x y = g (corner x y)
 
 -- The two directions. A statement on rooms is turned by swapping columns and rows; of a column and a row, `across` is the one
 -- that counts across the cut.
