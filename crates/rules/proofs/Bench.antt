@@ -33,7 +33,6 @@ use Rattle.rules.proofs.Choosing.{chooses-none, chooses-this}
 use Rattle.rules.proofs.Floorplans.{goes-down, no-placement, corner-zero, suited-decides}
 use Rattle.rules.specs.Figures.{widthsRise, tab, pick, bytesOf, leafTest, treeList, pairedList, computed, Pairs, Computes, AllCompute, table-computes}
 
-
 -- the list of a function's values
 length-tab : {A : Type 0} (n : ℕ) (f : ℕ → A) → length (tab n f) ≡ n
 unfolding tab

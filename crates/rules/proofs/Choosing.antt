@@ -14,7 +14,7 @@ use Rattle.rules.specs.declared.Shape.{Shape}
 use Rattle.rules.specs.declared.Direction.{Direction}
 use Rattle.rules.specs.Search.{any, least}
 use Rattle.rules.specs.Chip.{shape}
-use Rattle.rules.specs.Slot.{Stores}
+use Rattle.rules.specs.Slot.{Empty, Stores}
 use Rattle.rules.specs.Choice.{Chosen, Pair, Taken, beside}
 use Rattle.rules.specs.Test.{better, bestWidth, meets, leftIndex, leftShape, rightIndex, rightShape, hasPair}
 use Rattle.rules.proofs.Searching.{test-iffs, any-iff, least-is, least-found}
@@ -68,10 +68,6 @@ best-is g (suc n) = go (ltb 0 (g n)) refl (best-is g n)
         → Best g (suc n) (elim t as (λ _. ℕ) [ true ↦ better g n (bestWidth g n) | false ↦ bestWidth g n ])
     go true e b = newer g n (bestWidth g n) (ltb-true 0 (g n) e) b
     go false e b = older g n (bestWidth g n) (ltb-false 0 (g n) e) b
-
--- the slot holds no shape
-abbrev pub Empty : ℕ → (ℕ → ℕ) → Type 0
-Empty W g = (s : Shape) → Stores W g s → ⊥
 
 -- a slot is empty, or the computed shape is the one to choose
 pub chooses : (W : ℕ) (g : ℕ → ℕ) → ((bestWidth g W ≡ 0) × Empty W g) ⊎ Chosen W g (shape (bestWidth g W) (g (bestWidth g W - 1)))

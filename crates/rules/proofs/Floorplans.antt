@@ -13,9 +13,9 @@ use Rattle.rules.specs.Chip.{corner, holds}
 use Rattle.rules.specs.Tree.{position}
 use Rattle.rules.specs.Placement.{Placement, ShareNoCell, box, area}
 use Rattle.rules.specs.Shape.{Listed}
-use Rattle.rules.specs.Slot.{Stores, CornerOn, Stair, Stairs, ListsAt}
+use Rattle.rules.specs.Slot.{Empty, Stores, CornerOn, Stair, ListsAt}
 use Rattle.rules.specs.Choice.{Chosen}
-use Rattle.rules.specs.Design.{LawfulDesign, LawfulPlacement, OwnLists, rootSlot, GoesDown, SuitsOf, chipOf, needAt, nodeAt, nodes, root, inRange, withinLimits}
+use Rattle.rules.specs.Design.{LawfulDesign, LawfulPlacement, AllStairs, OwnLists, rootSlot, GoesDown, SuitsOf, chipOf, needAt, nodeAt, nodes, root, inRange, withinLimits}
 use Rattle.rules.specs.Check.{isSuited}
 use Rattle.rules.specs.Test.{laid}
 use Rattle.rules.proofs.Searching.{test-iffs}
@@ -23,7 +23,7 @@ use Rattle.rules.proofs.Nodes.{lawful-tree, root-position, node-at, by-
 use Rattle.rules.proofs.Standing.{whole, node-position}
 use Rattle.rules.proofs.Suiting.{design-decides, at-most-iff}
 use Rattle.rules.proofs.Placing.{PlacedIn}
-use Rattle.rules.proofs.Choosing.{Empty, chooses}
+use Rattle.rules.proofs.Choosing.{chooses}
 use Rattle.rules.proofs.Descending.{Every, laid-down, down-placed, own-goes-down}
 use Rattle.rules.proofs.Planning.{follow-apart, list-stair, none-listed, least-box, box-is}
 
@@ -48,12 +48,12 @@ module _ (d : Design) (lawful : LawfulDesign d) (slots : ℕ → Corner → ℕ 
       by-nodes d lawful (λ u. ListsAt (d .width .0) (d .height .0) (SuitsOf d) (slots (position u)) u) .1
       (λ t h c on. rw (node-position (node-at d lawful t h)) (own t h c on))
 
-  stairs-every : Stairs (d .width .0) (d .height .0) (nodes d) slots
+  stairs-every : AllStairs d slots
       → Every (λ u. (c : Corner) → CornerOn (d .width .0) (d .height .0) c → Stair (d .width .0) (d .height .0) c (slots (position u) c)) (root d)
   stairs-every st = by-nodes d lawful (λ u. (c : Corner) → CornerOn (d .width .0) (d .height .0) c → Stair (d .width .0) (d .height .0) c (slots (position u) c)) .1
       (λ t h c on. rw (node-position (node-at d lawful t h)) (st t c h on))
 
-  pub own-stairs : OwnLists d slots → Stairs (d .width .0) (d .height .0) (nodes d) slots
+  pub own-stairs : OwnLists d slots → AllStairs d slots
   own-stairs own t c h on = list-stair (design-decides d) (nodeAt d t) c (slots t c) (own t h c on)
 
   -- the root's slot is the slot of its position
@@ -61,7 +61,7 @@ module _ (d : Design) (lawful : LawfulDesign d) (slots : ℕ → Corner → ℕ 
   root-at c = let e = root-position d lawful in let q : nodes d - 1 ≡ position (root d) = omega arith in rw q
 
   -- whatever stairs a stranger wrote: what goes down is lawful, and lies in the shape
-  pub down-lawful : Stairs (d .width .0) (d .height .0) (nodes d) slots → (s : Shape) (p : Placement) → Stores (d .width .0) (rootSlot d slots) s
+  pub down-lawful : AllStairs d slots → (s : Shape) (p : Placement) → Stores (d .width .0) (rootSlot d slots) s
       → GoesDown d slots s p → PlacedIn (d .width .0) (d .height .0) (SuitsOf d) (root d) p 0 0 (0 + s .w .0) (0 + s .h .0)
   down-lawful st s p z down =
       down-placed slots (root d) (corner 0 0) s p (stairs-every st) (corner-zero d lawful) (rw (root-at (corner 0 0)) at z) down

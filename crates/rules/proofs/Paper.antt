@@ -68,9 +68,13 @@ module _ {W H : ℕ} {S : ℕ → Rectangle → Type 0} {F : ℕ → Test} (dec 
   document-lemma-2 t k l r c s z =
       let L : Corner → ℕ → ℕ = λ c. listByte H (fits F l) (c .x .0) (c .y .0) in let R : Corner → ℕ → ℕ = λ c. listByte H (fits F r) (c .x .0) (c .y .0) in
       let p = pairings-list-the-cut dec t k l r L R (λ c on. list-bytes dec l c) (λ c on. list-bytes dec r c) c s .1 z .is in
-      let q = p .pair in
-      (p .s, p .o, list-bytes dec l c (p .s) .0 (q .left), list-bytes dec r (beside k c (p .s)) (p .o) .0 (q .right),
-      pairing-bounds k c (p .s) (p .o) s (q .right .wide) (q .right .high) (q .box))
+      let q = p .pair in (
+        p .s,
+        p .o,
+        list-bytes dec l c (p .s) .0 (q .left),
+        list-bytes dec r (beside k c (p .s)) (p .o) .0 (q .right),
+        pairing-bounds k c (p .s) (p .o) s (q .right .wide) (q .right .high) (q .box),
+      )
 
   -- boxes round listed shapes of the children, anywhere on the chip
   abbrev pub ListedBoxes : Direction → Tree → Tree → Rectangle → Type 0
@@ -84,7 +88,7 @@ module _ {W H : ℕ} {S : ℕ → Rectangle → Type 0} {F : ℕ → Test} (dec 
   listed-children-suffice t k l r c =
       undominated-below (λ s z. let (p, q, x, y, o, e) = z in (p, q, x .is, y .is, o, e))
       (λ s z. let (o, i, d) = list-complete dec (cut t k l r) c s z in
-        let (s1, s2, x, y, e) = document-lemma-2 t k l r c o i in (o, (at c s1, at (beside k c s1) s2, x, y, in-order k c s1 s2, e), d))
+      let (s1, s2, x, y, e) = document-lemma-2 t k l r c o i in (o, (at c s1, at (beside k c s1) s2, x, y, in-order k c s1 s2, e), d))
     where
       in-order : (k : Direction) (c : Corner) (s1 s2 : Shape) → ends k (at c s1) ≤ begins k (at (beside k c s1) s2)
       in-order Vertical c s1 s2 = le-refl _

@@ -18,7 +18,7 @@ use Rattle.rules.specs.Search.{all}
 use Rattle.rules.specs.Chip.{Chip, corner, columnOf, Suits}
 use Rattle.rules.specs.Tree.{Tree, Standing, refused, things, tokenOf, standing, last}
 use Rattle.rules.specs.Placement.{Placement, Lawful}
-use Rattle.rules.specs.Slot.{slot, FullLists}
+use Rattle.rules.specs.Slot.{slot, Stairs, FullLists}
 use Rattle.rules.specs.Choice.{Down}
 
 -- "Limits: W 1..64, H 1..64, B 1..H, kinds 0..2, modules m 1..16, each of a need's three numbers 0..65,535, not all three
@@ -94,9 +94,12 @@ root d = last (standingOf d (nodes d))
 abbrev pub LawfulPlacement : Design → Placement → Type 0
 LawfulPlacement d p = Lawful (d .width .0) (d .height .0) (SuitsOf d) (root d) p
 
--- the slots of a design's nodes in work bytes; slots that are the design's full lists
+-- the slots of a design's nodes in work bytes; slots that are all stairs; slots that are the design's full lists
 abbrev pub slotsOf : Design → List ℕ → ℕ → Corner → ℕ → ℕ
 slotsOf d work = slot (d .width .0) (d .height .0) work
+
+abbrev pub AllStairs : Design → (ℕ → Corner → ℕ → ℕ) → Type 0
+AllStairs d slots = Stairs (d .width .0) (d .height .0) (nodes d) slots
 
 abbrev pub OwnLists : Design → (ℕ → Corner → ℕ → ℕ) → Type 0
 OwnLists d slots = FullLists (d .width .0) (d .height .0) (SuitsOf d) (nodeAt d) (nodes d) slots

@@ -11,6 +11,7 @@ pub mod Edit
 pub mod Bytes
 pub mod Check
 pub mod Reply
+pub mod Service
 pub mod Test
 pub mod Bench
 pub mod Figures

@@ -34,6 +34,10 @@ pub record Stores (W : ℕ) (bytes : ℕ → ℕ) (s : Shape) : Type 0 where
   pub high : 1 ≤ s .h .0
   pub byte : bytes (s .w .0 - 1) ≡ s .h .0
 
+-- the slot holds no shape
+abbrev pub Empty : ℕ → (ℕ → ℕ) → Type 0
+Empty W bytes = (s : Shape) → Stores W bytes s → ⊥
+
 -- the slot's bytes are the list of these shapes: it holds exactly those that no other dominates
 abbrev pub IsListOf : ℕ → (ℕ → ℕ) → (Shape → Type 0) → Type 0
 IsListOf W bytes P = (s : Shape) → Stores W bytes s ↔ Undominated P s

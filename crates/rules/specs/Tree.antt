@@ -69,10 +69,3 @@ abbrev pub last : Standing → Tree
 last refused = leaf 0 0
 last (things []) = leaf 0 0
 last (things (t ∷ ts)) = t
-
--- "exactly one thing stands"
-abbrev pub OneThing : Standing → Type 0
-OneThing refused = ⊥
-OneThing (things []) = ⊥
-OneThing (things (t ∷ [])) = Unit {0}
-OneThing (things (t ∷ (u ∷ ts))) = ⊥

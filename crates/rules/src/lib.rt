@@ -88,10 +88,16 @@ pub enum Refusal {
     CutNotKept(usize),
 }
 
-// The answer of read, list, check and edit, and of the value test.
+// The answer of list and check, and of the value test; with a design beside it, of read and edit.
 pub enum Reply {
     Done,
     Refused(Refusal),
+}
+
+// What read and edit hand back: the answer, and the design beside it.
+pub struct Handed {
+    pub reply: Reply,
+    pub design: Design,
 }
 
 // The answer of write: how many bytes, or why none.

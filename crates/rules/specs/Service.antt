@@ -1,0 +1,116 @@
+-- The seven services of 01: what each contract says of its reply and of every lent byte, for all inputs. Each is said by its
+-- outcomes, in the order in which the refusals are given.
+use mathlib.Core.Path.{_≡_}
+use mathlib.Core.Logic.{_⊎_}
+use mathlib.Core.Bool.{So}
+use mathlib.Core.List.{List, [], _++_}
+use Prim.Native.Nat.{ℕ, _-_, _*_, _≤_, _<_}
+use lib.ListN.{length, drop}
+use Rattle.rules.specs.declared.Shape.{Shape}
+use Rattle.rules.specs.declared.Design.{Design}
+use Rattle.rules.specs.declared.Edit.{Edit}
+use Rattle.rules.specs.declared.Refusal.{Refusal}
+use Rattle.rules.specs.declared.Refusal.the-variants.{TooShort, Unreliable, NoPlacement, NoSuchEdit}
+use Rattle.rules.specs.declared.Reply.{Reply}
+use Rattle.rules.specs.declared.Reply.the-variants.{Done, Refused}
+use Rattle.rules.specs.declared.Handed.{Handed}
+use Rattle.rules.specs.declared.Written.{Written}
+use Rattle.rules.specs.declared.Written.the-variants.{Bytes}
+use Rattle.rules.specs.declared.Written.the-variants as written
+use Rattle.rules.specs.declared.Planned.{Planned}
+use Rattle.rules.specs.declared.Planned.the-variants.{Box}
+use Rattle.rules.specs.declared.Planned.the-variants as planned
+use Rattle.rules.specs.Placement.{Placement}
+use Rattle.rules.specs.Slot.{workNeeded, PastKept, Empty}
+use Rattle.rules.specs.Choice.{Chosen, rowsOut}
+use Rattle.rules.specs.Design.{mostColumns, mostModules, noNeed, nodes, valueTest, LawfulDesign, slotsOf, AllStairs, OwnLists, rootSlot, GoesDown}
+use Rattle.rules.specs.Edit.{namesPlace, changed, EditedLists}
+use Rattle.rules.specs.Bytes.{Took, took, refuse, designBytes, designAt, padded}
+use Rattle.rules.specs.Check.{verdict}
+
+-- read. "The design that a refused reading hands back is all zeros."
+unfoldable pub zeros : Design
+zeros = record {
+  width = record { 0 = 0 };
+  height = record { 0 = 0 };
+  block = record { 0 = 0 };
+  kinds = padded mostColumns 0 [];
+  modules = 0;
+  needs = padded mostModules noNeed [];
+  tokens = padded (2 * mostModules - 1) 0 [];
+}
+
+abbrev pub handed : Took Design → Handed
+handed (took d n) = record { reply = Done; design = d }
+handed (refuse e) = record { reply = Refused e; design = zeros }
+
+abbrev pub Reads : List ℕ → Handed → Type 0
+Reads s r = r ≡ handed (designAt s)
+
+-- write: "8, otherwise the byte count, bytes past it staying"
+pub record Writes (d : Design) (before : List ℕ) (r : Written) (after : List ℕ) : Type 0 where
+  pub unlawful : (e : Refusal) → valueTest d ≡ Refused e → (r ≡ written.Refused e) × (after ≡ before)
+  pub short : LawfulDesign d → length before < length (designBytes d) → (r ≡ written.Refused TooShort) × (after ≡ before)
+  pub done : LawfulDesign d → length (designBytes d) ≤ length before
+      → (r ≡ Bytes (length (designBytes d))) × (after ≡ designBytes d ++ drop (length (designBytes d)) before)
+
+-- the work bytes that a design's lists take, and its rows
+abbrev pub workOf : Design → ℕ
+workOf d = workNeeded (d .width .0) (d .height .0) (nodes d)
+
+abbrev pub rowsOf : Design → ℕ
+rowsOf d = 4 * d .modules
+
+-- a lawful design with enough room lent
+pub record Enough (d : Design) (work rows : List ℕ) : Type 0 where
+  pub lawful : LawfulDesign d
+  pub work : workOf d ≤ length work
+  pub rows : rowsOf d ≤ length rows
+
+-- list: 8
+pub record Lists (d : Design) (before : List ℕ) (r : Reply) (after : List ℕ) : Type 0 where
+  pub unlawful : (e : Refusal) → valueTest d ≡ Refused e → (r ≡ Refused e) × (after ≡ before)
+  pub short : LawfulDesign d → length before < workOf d → (r ≡ Refused TooShort) × (after ≡ before)
+  pub done : LawfulDesign d → workOf d ≤ length before → (r ≡ Done) × PastKept (workOf d) before after × OwnLists d (slotsOf d after)
+
+-- plan: 8, 10; "after plan, work holds the full lists"
+pub record Plans (d : Design) (before rows : List ℕ) (r : Planned) (after rows' : List ℕ) : Type 0 where
+  pub unlawful : (e : Refusal) → valueTest d ≡ Refused e → (r ≡ planned.Refused e) × (after ≡ before) × (rows' ≡ rows)
+  pub short : LawfulDesign d → (length before < workOf d) ⊎ (length rows < rowsOf d)
+      → (r ≡ planned.Refused TooShort) × (after ≡ before) × (rows' ≡ rows)
+  pub listed : Enough d before rows → PastKept (workOf d) before after × OwnLists d (slotsOf d after)
+  pub none : Enough d before rows → Empty (d .width .0) (rootSlot d (slotsOf d after)) → (r ≡ planned.Refused NoPlacement) × (rows' ≡ rows)
+  pub done : Enough d before rows → (s : Shape) (p : Placement)
+      → Chosen (d .width .0) (rootSlot d (slotsOf d after)) s → GoesDown d (slotsOf d after) s p
+      → (r ≡ Box s) × (rows' ≡ rowsOut (d .modules) p ++ drop (rowsOf d) rows)
+
+-- place: 8, 9, 10. "Place and edit give 9 if any slot of any node is not a stair. Place also gives 9 if a chosen shape has no pair
+-- below it or a leaf's shape does not suit." Work is only lent to be read.
+pub record Places (d : Design) (work rows : List ℕ) (r : Planned) (rows' : List ℕ) : Type 0 where
+  pub unlawful : (e : Refusal) → valueTest d ≡ Refused e → (r ≡ planned.Refused e) × (rows' ≡ rows)
+  pub short : LawfulDesign d → (length work < workOf d) ⊎ (length rows < rowsOf d) → (r ≡ planned.Refused TooShort) × (rows' ≡ rows)
+  pub stranger : Enough d work rows → (AllStairs d (slotsOf d work) → ⊥) → (r ≡ planned.Refused Unreliable) × (rows' ≡ rows)
+  pub none : Enough d work rows → AllStairs d (slotsOf d work) → Empty (d .width .0) (rootSlot d (slotsOf d work))
+      → (r ≡ planned.Refused NoPlacement) × (rows' ≡ rows)
+  pub lost : Enough d work rows → AllStairs d (slotsOf d work) → (s : Shape) → Chosen (d .width .0) (rootSlot d (slotsOf d work)) s
+      → ((p : Placement) → GoesDown d (slotsOf d work) s p → ⊥) → (r ≡ planned.Refused Unreliable) × (rows' ≡ rows)
+  pub done : Enough d work rows → AllStairs d (slotsOf d work) → (s : Shape) (p : Placement)
+      → Chosen (d .width .0) (rootSlot d (slotsOf d work)) s → GoesDown d (slotsOf d work) s p
+      → (r ≡ Box s) × (rows' ≡ rowsOut (d .modules) p ++ drop (rowsOf d) rows)
+
+-- edit: 11, 8, 9. "An edit hands the design back with that one change, or unchanged if refused."
+abbrev pub Unchanged : Design → List ℕ → Handed → List ℕ → Refusal → Type 0
+Unchanged d before r after e = (r ≡ record { reply = Refused e; design = d }) × (after ≡ before)
+
+pub record Edits (d : Design) (e : Edit) (before : List ℕ) (r : Handed) (after : List ℕ) : Type 0 where
+  pub unlawful : (f : Refusal) → valueTest d ≡ Refused f → Unchanged d before r after f
+  pub unnamed : LawfulDesign d → (So (namesPlace d e) → ⊥) → Unchanged d before r after NoSuchEdit
+  pub short : LawfulDesign d → So (namesPlace d e) → length before < workOf d → Unchanged d before r after TooShort
+  pub stranger : LawfulDesign d → So (namesPlace d e) → workOf d ≤ length before → (AllStairs d (slotsOf d before) → ⊥)
+      → Unchanged d before r after Unreliable
+  pub done : LawfulDesign d → So (namesPlace d e) → workOf d ≤ length before → AllStairs d (slotsOf d before)
+      → (r ≡ record { reply = Done; design = changed d e }) × EditedLists d e before after
+
+-- check
+abbrev pub Checks : Design → List ℕ → Reply → Type 0
+Checks d rows r = r ≡ verdict d rows
