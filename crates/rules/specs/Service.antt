@@ -64,8 +64,8 @@ rowsOf d = 4 * d .modules
 -- a lawful design with enough room lent
 pub record Enough (d : Design) (work rows : List ℕ) : Type 0 where
   pub lawful : LawfulDesign d
-  pub work : workOf d ≤ length work
-  pub rows : rowsOf d ≤ length rows
+  pub bytes : workOf d ≤ length work
+  pub places : rowsOf d ≤ length rows
 
 -- list: 8
 pub record Lists (d : Design) (before : List ℕ) (r : Reply) (after : List ℕ) : Type 0 where
