@@ -1,0 +1,2 @@
+-- The promises: theorems about whatever the seven contracts allow.
+pub mod Unique
