@@ -15,6 +15,8 @@ pub mod Agreeing
 pub mod Planning
 pub mod Floorplans
 pub mod Checking
+pub mod Numbers
+pub mod Reading
 pub mod Changing
 pub mod Relisting
 pub mod Working
