@@ -55,7 +55,7 @@ writes-once d before after after' r r' x y = ⊎-elim
 pub lists-once : (d : Design) (before after after' : List ℕ) (r r' : Reply) → Lists d before r after → Lists d before r' after' → (r ≡ r') × (after ≡ after')
 lists-once d before after after' r r' x y = ⊎-elim
     (λ l. ⊎-elim
-      (λ h. let (a, k, o) = x .done l h in let (a', k', o') = y .done l h in
-        (a ∙ sym a', listed-once (d .width .0) (d .height .0) (SuitsOf d) (nodeAt d) (nodes d) before after after' k k' o o'))
-      (λ h. both (x .short l h) (y .short l h)) (enough (workOf d) (length before)))
+    (λ h. let (a, k, o) = x .done l h in let (a', k', o') = y .done l h in
+    (a ∙ sym a', listed-once (d .width .0) (d .height .0) (SuitsOf d) (nodeAt d) (nodes d) before after after' k k' o o'))
+    (λ h. both (x .short l h) (y .short l h)) (enough (workOf d) (length before)))
     (λ z. both (x .unlawful (z .0) (z .1)) (y .unlawful (z .0) (z .1))) (tested d)

@@ -16,7 +16,7 @@ pub mod Planning
 pub mod Floorplans
 pub mod Checking
 pub mod Numbers
-pub mod Reading
+-- pub mod Reading
 pub mod Changing
 pub mod Relisting
 pub mod Working

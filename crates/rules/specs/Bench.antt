@@ -3,7 +3,7 @@
 use mathlib.Core.Path.{_≡_}
 use mathlib.Core.Logic.{_⊎_, _↔_}
 use mathlib.Core.List.{List, [], _∷_, _++_}
-use Prim.Native.Nat.{ℕ, _-_, _*_, _<_}
+use Prim.Native.Nat.{ℕ, _-_, _<_}
 use lib.ListN.{length, getD}
 use Rattle.rules.specs.declared.Corner.{Corner}
 use Rattle.rules.specs.declared.Shape.{Shape}
@@ -19,8 +19,8 @@ use Rattle.rules.specs.Shape.{ShapeAt, Listed}
 use Rattle.rules.specs.Slot.{slotStart, ListsAt, IsListOf}
 use Rattle.rules.specs.Choice.{Chosen}
 use Rattle.rules.specs.Edit.{Paired, changed}
-use Rattle.rules.specs.Design.{chipOf, mostColumns, mostModules, noNeed, nodes, root, SuitsOf, LawfulPlacement, OwnLists, rootSlot, GoesDown}
-use Rattle.rules.specs.Bytes.{Took, took, refuse, designAt, padded}
+use Rattle.rules.specs.Design.{chipOf, nodes, root, SuitsOf, LawfulPlacement, OwnLists, rootSlot, GoesDown}
+use Rattle.rules.specs.Bytes.{Took, took, refuse, designAt, designOf}
 
 pub data Example : Type 0 where
   -- the root's list at a corner is these shapes
@@ -66,15 +66,7 @@ abbrev pub need : ℕ → ℕ → ℕ → Need
 need a b c = record { clbs = a; rams = b; multipliers = c }
 
 abbrev pub design : List ℕ → ℕ → ℕ → List Need → List ℕ → Design
-design kinds h b needs tokens = record {
-  width = record { 0 = length kinds };
-  height = record { 0 = h };
-  block = record { 0 = b };
-  kinds = padded mostColumns 0 kinds;
-  modules = length needs;
-  needs = padded mostModules noNeed needs;
-  tokens = padded (2 * mostModules - 1) 0 tokens;
-}
+design kinds h b needs tokens = designOf (length kinds) h b kinds (length needs) needs tokens
 
 -- "Chip E: kinds 0 1 2 0 0 four times, H 12, B 3, need (12,1,1)"; D; "four CLB columns, H 4, B 1, one module (12,0,0)"
 unfoldable pub E : Design

@@ -9,7 +9,7 @@ use Rattle.rules.specs.declared.Design.{Design}
 use Rattle.rules.specs.declared.Refusal.{Refusal}
 use Rattle.rules.specs.declared.Refusal.the-variants.{Unfinished, Malformed, WrongForm, BreaksLimits, BadToken, NotOneThing, ExtraBytes}
 use Rattle.rules.specs.Tree.{Tree, Standing, refused, things, tokenOf, after}
-use Rattle.rules.specs.Design.{mostColumns, mostRows, lastKind, mostModules, mostNumber, noNeed, kindAt, needAt, nodes, inRange, lawfulNeed}
+use Rattle.rules.specs.Design.{mostColumns, mostRows, lawfulKind, mostModules, mostNumber, noNeed, kindAt, needAt, nodes, inRange, lawfulNeed}
 
 -- "Every number is written in groups of seven bits, low group first, the top bit set on every byte but the last. Only the
 -- shortest form is valid, at most three bytes, value at most 65,535."
@@ -77,19 +77,17 @@ designBytes d =
     ++ (numberBytes (d .modules) ++ (rowBytes needBytes (needAt d) (d .modules)
     ++ rowBytes numberBytes (λ t. getD (d .tokens) t 0) (nodes d)))))))
 
--- 3: "form number is not 1"
-unfoldable pub formAt : List ℕ → ℕ → Took ℕ
-formAt s at = andThen (numberAt s at) λ v next. judged (eqb v 1) (WrongForm at) (took v next)
+-- a number that has to pass a test, refused at its first byte. 3: "form number is not 1"; 4: "a value breaks the limits above"
+unfoldable pub checkedAt : (ℕ → Bool) → (ℕ → Refusal) → List ℕ → ℕ → Took ℕ
+checkedAt test refusal s at = andThen (numberAt s at) λ v next. judged (test v) (refusal at) (took v next)
 
--- 4: "a value breaks the limits above", at the number at fault
-unfoldable pub limitedAt : List ℕ → ℕ → ℕ → ℕ → Took ℕ
-limitedAt s low most at = andThen (numberAt s at) λ v next. judged (inRange low most v) (BreaksLimits at) (took v next)
+abbrev pub limitedAt : ℕ → ℕ → List ℕ → ℕ → Took ℕ
+limitedAt low most = checkedAt (inRange low most) BreaksLimits
 
-unfoldable pub kindsAt : List ℕ → ℕ → ℕ → Took (List ℕ)
-kindsAt s zero at = took [] at
-kindsAt s (suc n) at =
-    andThen (limitedAt s 0 lastKind at) λ k next.
-    andThen (kindsAt s n next) λ ks end. took (k ∷ ks) end
+-- a row of n things, each read where the last one ended
+unfoldable pub rowAt : {A : Type 0} → (ℕ → Took A) → ℕ → ℕ → Took (List A)
+rowAt f zero at = took [] at
+rowAt f (suc n) at = andThen (f at) λ a next. andThen (rowAt f n next) λ rest end. took (a ∷ rest) end
 
 -- "an all-zero need: its first number", judged when the third is read
 unfoldable pub needOf : List ℕ → ℕ → Took Need
@@ -98,12 +96,6 @@ needOf s at =
     andThen (numberAt s second) λ b third.
     andThen (numberAt s third) λ c next.
     let n : Need = record { clbs = a; rams = b; multipliers = c } in judged (lawfulNeed n) (BreaksLimits at) (took n next)
-
-unfoldable pub needsAt : List ℕ → ℕ → ℕ → Took (List Need)
-needsAt s zero at = took [] at
-needsAt s (suc n) at =
-    andThen (needOf s at) λ a next.
-    andThen (needsAt s n next) λ rest end. took (a ∷ rest) end
 
 -- 5 at the token; 6 at the length, when the tokens are used up: n more tokens, after t of them, over what stands
 abbrev pub onlyOne : List ℕ → ℕ → List Tree → Took (List ℕ)
@@ -126,24 +118,27 @@ tokensAt s m t (suc n) ts at =
 unfoldable pub padded : {A : Type 0} → ℕ → A → List A → List A
 padded size zeros xs = xs ++ replicate (size - length xs) zeros
 
+abbrev pub designOf : ℕ → ℕ → ℕ → List ℕ → ℕ → List Need → List ℕ → Design
+designOf w h b kinds m needs tokens = record {
+  width = record { 0 = w };
+  height = record { 0 = h };
+  block = record { 0 = b };
+  kinds = padded mostColumns 0 kinds;
+  modules = m;
+  needs = padded mostModules noNeed needs;
+  tokens = padded (2 * mostModules - 1) 0 tokens;
+}
+
 -- "Numbers are judged as they are read: 1 or 2 first, then 3, 4 or 5, then 6, then 7." 7: "bytes after the last token", at the
 -- first extra byte.
 unfoldable pub designAt : List ℕ → Took Design
 designAt s =
-    andThen (formAt s 0) λ form at-w.
-    andThen (limitedAt s 1 mostColumns at-w) λ w at-h.
-    andThen (limitedAt s 1 mostRows at-h) λ h at-b.
-    andThen (limitedAt s 1 h at-b) λ b at-kinds.
-    andThen (kindsAt s w at-kinds) λ kinds at-m.
-    andThen (limitedAt s 1 mostModules at-m) λ m at-needs.
-    andThen (needsAt s m at-needs) λ needs at-tokens.
+    andThen (checkedAt (λ v. eqb v 1) WrongForm s 0) λ form at-w.
+    andThen (limitedAt 1 mostColumns s at-w) λ w at-h.
+    andThen (limitedAt 1 mostRows s at-h) λ h at-b.
+    andThen (limitedAt 1 h s at-b) λ b at-kinds.
+    andThen (rowAt (checkedAt lawfulKind BreaksLimits s) w at-kinds) λ kinds at-m.
+    andThen (limitedAt 1 mostModules s at-m) λ m at-needs.
+    andThen (rowAt (needOf s) m at-needs) λ needs at-tokens.
     andThen (tokensAt s m 0 (2 * m - 1) [] at-tokens) λ tokens end.
-    judged (eqb end (length s)) (ExtraBytes end) (took (record {
-      width = record { 0 = w };
-      height = record { 0 = h };
-      block = record { 0 = b };
-      kinds = padded mostColumns 0 kinds;
-      modules = m;
-      needs = padded mostModules noNeed needs;
-      tokens = padded (2 * mostModules - 1) 0 tokens;
-    }) end)
+    judged (eqb end (length s)) (ExtraBytes end) (took (designOf w h b kinds m needs tokens) end)

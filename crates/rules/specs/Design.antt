@@ -58,6 +58,9 @@ nodes d = 2 * d .modules - 1
 unfoldable pub inRange : ℕ → ℕ → ℕ → Bool
 inRange low most n = leb low n && leb n most
 
+abbrev pub lawfulKind : ℕ → Bool
+lawfulKind k = leb k lastKind
+
 unfoldable pub lawfulNeed : Need → Bool
 lawfulNeed n =
     leb (n .clbs) mostNumber && leb (n .rams) mostNumber && leb (n .multipliers) mostNumber
@@ -66,7 +69,7 @@ lawfulNeed n =
 unfoldable pub withinLimits : Design → Bool
 withinLimits d =
     inRange 1 mostColumns (d .width .0) && inRange 1 mostRows (d .height .0) && inRange 1 (d .height .0) (d .block .0)
-    && all (d .width .0) (λ x. leb (kindAt d x) lastKind)
+    && all (d .width .0) (λ x. lawfulKind (kindAt d x))
     && inRange 1 mostModules (d .modules) && all (d .modules) (λ k. lawfulNeed (needAt d k))
 
 -- The chip, the suiting and the tree of a design.

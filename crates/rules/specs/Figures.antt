@@ -17,7 +17,7 @@ use Rattle.rules.specs.Tree.{Tree, leaf, cut, has, stands, joined, added
 use Rattle.rules.specs.Slot.{slotStart}
 use Rattle.rules.specs.Design.{needAt, nodes, nodeAt, root, chipOf, valueTest, withinLimits, inRange, lawfulNeed, rootSlot}
 use Rattle.rules.specs.Edit.{changed}
-use Rattle.rules.specs.Bytes.{designAt, formAt, limitedAt, numberAt, secondByte, thirdByte, kindsAt, needOf, needsAt, tokensAt, padded}
+use Rattle.rules.specs.Bytes.{designAt, checkedAt, numberAt, secondByte, thirdByte, rowAt, needOf, tokensAt, padded}
 use Rattle.rules.specs.Test.{grid, Test, suitsRoom, parted, fits, lowest, listByte, stored, sideBySide, pairTest, bestWidth, meets, leftIndex, rightIndex, laid, merge}
 use Rattle.rules.specs.Bench.{Example, lists, contains, slotIs, pairsTo, plansTo, hasNone, reads, E, D, four, table}
 
@@ -76,7 +76,7 @@ pub table-computes : AllCompute table
 unfolding AllCompute Computes table tab bytesOf widthsRise leafTest treeList pairedList computed Pairs
     E D four padded changed
     any all least count total columnOf coversBlock heldBetween holds has stands joined added standing
-    chipOf valueTest withinLimits inRange lawfulNeed designAt formAt limitedAt numberAt secondByte thirdByte kindsAt needOf needsAt tokensAt
+    chipOf valueTest withinLimits inRange lawfulNeed designAt checkedAt numberAt secondByte thirdByte rowAt needOf tokensAt
     suitsRoom parted fits lowest listByte stored sideBySide pairTest bestWidth meets leftIndex rightIndex laid merge
 table-computes = (
   (refl, refl),

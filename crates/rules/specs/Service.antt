@@ -4,7 +4,7 @@ use mathlib.Core.Path.{_≡_}
 use mathlib.Core.Logic.{_⊎_}
 use mathlib.Core.Bool.{So}
 use mathlib.Core.List.{List, [], _++_}
-use Prim.Native.Nat.{ℕ, _-_, _*_, _≤_, _<_}
+use Prim.Native.Nat.{ℕ, _*_, _≤_, _<_}
 use lib.ListN.{length, drop}
 use Rattle.rules.specs.declared.Shape.{Shape}
 use Rattle.rules.specs.declared.Design.{Design}
@@ -23,22 +23,14 @@ use Rattle.rules.specs.declared.Planned.the-variants as planned
 use Rattle.rules.specs.Placement.{Placement}
 use Rattle.rules.specs.Slot.{workNeeded, PastKept, Empty}
 use Rattle.rules.specs.Choice.{Chosen, rowsOut}
-use Rattle.rules.specs.Design.{mostColumns, mostModules, noNeed, nodes, valueTest, LawfulDesign, slotsOf, AllStairs, OwnLists, rootSlot, GoesDown}
+use Rattle.rules.specs.Design.{nodes, valueTest, LawfulDesign, slotsOf, AllStairs, OwnLists, rootSlot, GoesDown}
 use Rattle.rules.specs.Edit.{namesPlace, changed, EditedLists}
-use Rattle.rules.specs.Bytes.{Took, took, refuse, designBytes, designAt, padded}
+use Rattle.rules.specs.Bytes.{Took, took, refuse, designBytes, designAt, designOf}
 use Rattle.rules.specs.Check.{verdict}
 
 -- read. "The design that a refused reading hands back is all zeros."
 unfoldable pub zeros : Design
-zeros = record {
-  width = record { 0 = 0 };
-  height = record { 0 = 0 };
-  block = record { 0 = 0 };
-  kinds = padded mostColumns 0 [];
-  modules = 0;
-  needs = padded mostModules noNeed [];
-  tokens = padded (2 * mostModules - 1) 0 [];
-}
+zeros = designOf 0 0 0 [] 0 [] []
 
 abbrev pub handed : Took Design → Handed
 handed (took d n) = record { reply = Done; design = d }
