@@ -20,4 +20,5 @@ pub mod Numbers
 pub mod Changing
 pub mod Relisting
 pub mod Working
+pub mod Stairs
 pub mod Bench

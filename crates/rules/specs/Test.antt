@@ -1,6 +1,6 @@
 -- Tests that compute, beside the rules that they decide. None of them has to be believed: proofs/ shows of each which rule it
 -- decides. A room is given by its four sides, left, bottom, right and top; its test is a Bool.
-use mathlib.Core.Bool.{Bool, true, false, _&&_}
+use mathlib.Core.Bool.{Bool, true, false, _&&_, _||_}
 use Prim.Native.Nat.{ℕ, zero, suc, _+_, _-_, _*_}
 use lib.Dec.{leb, ltb, eqb}
 use Rattle.rules.specs.declared.Direction.{Direction}
@@ -9,7 +9,7 @@ use Rattle.rules.specs.declared.Corner.{Corner}
 use Rattle.rules.specs.declared.Shape.{Shape}
 use Rattle.rules.specs.declared.Rectangle.{Rectangle}
 use Rattle.rules.specs.declared.Need.{Need}
-use Rattle.rules.specs.Search.{any, least}
+use Rattle.rules.specs.Search.{any, all, least}
 use Rattle.rules.specs.Chip.{Chip, corner, shape, rectangle, heldBetween}
 use Rattle.rules.specs.Tree.{Tree, leaf, cut, has, position}
 use Rattle.rules.specs.Placement.{Placement}
@@ -132,3 +132,12 @@ laid W H slots (cut t d l r) c whole =
     let s = leftShape W H d (slots (position l)) (slots (position r)) c whole in
     let o = rightShape W H d (slots (position l)) (slots (position r)) c whole in
     merge l (laid W H slots l c s) (laid W H slots r (beside d c s) o)
+
+-- a slot is a stair; and so are all slots of the first n nodes
+unfoldable pub isStair : ℕ → ℕ → Corner → (ℕ → ℕ) → Bool
+isStair W H c g =
+    all W (λ j. leb (g j) (H - c .y .0) && (leb (suc j) (W - c .x .0) || eqb (g j) 0)
+    && all j (λ i. eqb (g i) 0 || (eqb (g j) 0 || ltb (g j) (g i))))
+
+unfoldable pub areStairs : ℕ → ℕ → ℕ → (ℕ → Corner → ℕ → ℕ) → Bool
+areStairs W H n slots = all n (λ t. all H (λ y. all W (λ x. isStair W H (corner x y) (slots t (corner x y)))))
