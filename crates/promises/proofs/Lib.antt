@@ -1,2 +1,4 @@
 -- The promises: theorems about whatever the seven contracts allow.
 pub mod Unique
+pub mod Planning
+pub mod Editing

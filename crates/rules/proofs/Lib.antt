@@ -15,6 +15,7 @@ pub mod Agreeing
 pub mod Planning
 pub mod Floorplans
 pub mod Checking
+pub mod RowsOut
 pub mod Numbers
 -- pub mod Reading
 pub mod Changing

@@ -123,15 +123,16 @@ follows-same (cut t d l r) p q e (f, g, h) =
     (follows-same l p q el f, follows-same r p q er g, λ i j s u. rw (← el i s, ← er j u) (h i j s u))
 
 module _ {W H : ℕ} {Suits : ℕ → Rectangle → Type 0} where
-  pub same-placed : (t : Tree) (p q : Placement) (a c b e : ℕ) → ((k : ℕ) → So (has t k) → p k ≡ q k) → PlacedIn W H Suits t p a c b e → PlacedIn W H Suits t q a c b e
-  same-placed t p q a c b e same z = record {
-    lawful = record {
-      onChip = λ k s. rw (← same k s) (z .lawful .onChip k s);
-      suits = λ k s. rw (← same k s) (z .lawful .suits k s);
-      follows = follows-same t p q same (z .lawful .follows);
-    };
-    inside = λ k s. rw (← same k s) (z .inside k s);
+  pub lawful-same : (t : Tree) (p q : Placement) → ((k : ℕ) → So (has t k) → p k ≡ q k) → Lawful W H Suits t p → Lawful W H Suits t q
+  lawful-same t p q same z = record {
+    onChip = λ k s. rw (← same k s) (z .onChip k s);
+    suits = λ k s. rw (← same k s) (z .suits k s);
+    follows = follows-same t p q same (z .follows);
   }
+
+  pub same-placed : (t : Tree) (p q : Placement) (a c b e : ℕ) → ((k : ℕ) → So (has t k) → p k ≡ q k)
+      → PlacedIn W H Suits t p a c b e → PlacedIn W H Suits t q a c b e
+  same-placed t p q a c b e same z = record { lawful = lawful-same t p q same (z .lawful); inside = λ k s. rw (← same k s) (z .inside k s) }
 
   -- placements of the two children, one in each part of the room, are one of the cut
   pub both-placed : (t : ℕ) (d : Direction) (l r : Tree) (p : Placement) (a c b e m : ℕ) → across d a c ≤ m → m ≤ across d b e

@@ -1,0 +1,100 @@
+-- Demand 2 over the contracts of list, plan, place and check. The lists are complete, sorted and free of dominated shapes; plan says
+-- "no placement" exactly if there is none, and otherwise its rectangles pass the checker, share no cell and have the least box;
+-- and place, over what list writes, answers as plan does. Assumes nothing.
+use mathlib.Core.Path.{_≡_, refl, sym, _∙_, ap}
+use mathlib.Core.Logic.{_⊎_, inl, inr, ⊎-elim, _↔_}
+use mathlib.Core.Bool.{So}
+use mathlib.Core.List.{List, _++_}
+use Prim.Native.Nat.{ℕ, _+_, _≤_, _<_}
+use native.Mathlib.Omega.{arith}
+use lib.ListN.{length, drop, length-append}
+use Rattle.rules.specs.declared.Corner.{Corner}
+use Rattle.rules.specs.declared.Shape.{Shape}
+use Rattle.rules.specs.declared.Design.{Design}
+use Rattle.rules.specs.declared.Refusal.the-variants.{NoPlacement}
+use Rattle.rules.specs.declared.Reply.{Reply}
+use Rattle.rules.specs.declared.Reply.the-variants.{Done}
+use Rattle.rules.specs.declared.Planned.{Planned}
+use Rattle.rules.specs.declared.Planned.the-variants.{Box, Refused}
+use Rattle.rules.specs.Placement.{Placement, ShareNoCell, box, area}
+use Rattle.rules.specs.Shape.{ShapeAt, Listed, Dominates}
+use Rattle.rules.specs.Slot.{Stores, CornerOn}
+use Rattle.rules.specs.Choice.{rowsOut}
+use Rattle.rules.specs.Design.{LawfulDesign, LawfulPlacement, nodeAt, nodes, root, SuitsOf, slotsOf, OwnLists}
+use Rattle.rules.specs.Check.{verdict, fromRows}
+use Rattle.rules.specs.Service.{Lists, Plans, Places, Enough, workOf, rowsOf}
+use Rattle.rules.proofs.Suiting.{design-decides}
+use Rattle.rules.proofs.Listing.{list-complete, list-sorted}
+use Rattle.rules.proofs.Nodes.{lawful-tree}
+use Rattle.rules.proofs.Placing.{lawful-same}
+use Rattle.rules.specs.Tree.{has}
+use Rattle.rules.proofs.Planning.{follow-apart}
+use Rattle.rules.proofs.Floorplans.{Floorplan, planned, no-placement, own-stairs}
+use Rattle.rules.proofs.Checking.{passes-iff}
+use Rattle.rules.proofs.RowsOut.{length-rows, rows-back}
+use Rattle.rules.proofs.Working.{listed-once}
+use Rattle.promises.proofs.Unique.{places-once}
+
+-- "Each list is complete, sorted and free of dominated shapes": of the slot of each node at each corner of the chip
+pub record GoodList (d : Design) (t : ℕ) (c : Corner) (bytes : ℕ → ℕ) : Type 0 where
+  pub shapes : (s : Shape) → Stores (d .width .0) bytes s → ShapeAt (d .width .0) (d .height .0) (SuitsOf d) (nodeAt d t) c s
+  pub complete : (s : Shape) → ShapeAt (d .width .0) (d .height .0) (SuitsOf d) (nodeAt d t) c s → (o : Shape) × Stores (d .width .0) bytes o × Dominates o s
+  pub sorted : (s o : Shape) → Stores (d .width .0) bytes s → Stores (d .width .0) bytes o → s .w .0 < o .w .0 → o .h .0 < s .h .0
+  pub undominated : (s o : Shape) → Stores (d .width .0) bytes s → ShapeAt (d .width .0) (d .height .0) (SuitsOf d) (nodeAt d t) c o → Dominates o s → o ≡ s
+
+own-good : (d : Design) (slots : ℕ → Corner → ℕ → ℕ) → OwnLists d slots → (t : ℕ) (c : Corner) → t < nodes d → CornerOn (d .width .0) (d .height .0) c → GoodList d t c (slots t c)
+own-good d slots own t c h on = let l = own t h c on in record {
+  shapes = λ s z. l s .0 z .is;
+  complete = λ s z. let (o, i, e) = list-complete (design-decides d) (nodeAt d t) c s z in (o, l o .1 i, e);
+  sorted = λ s o x y. list-sorted (d .width .0) (slots t c) l s o x y;
+  undominated = λ s o x y e. l s .0 x .alone o y e;
+}
+
+pub lists-are-good : (d : Design) (before after : List ℕ) (r : Reply) → Lists d before r after → LawfulDesign d → workOf d ≤ length before
+    → (t : ℕ) (c : Corner) → t < nodes d → CornerOn (d .width .0) (d .height .0) c → GoodList d t c (slotsOf d after t c)
+lists-are-good d before after r x l h = own-good d (slotsOf d after) (x .done l h .2)
+
+-- what plan promises where it answers with a box
+pub record GoodPlan (d : Design) (s : Shape) (rows : List ℕ) : Type 0 where
+  pub passes : verdict d rows ≡ Done
+  pub apart : ShareNoCell (root d) (fromRows rows)
+  pub smallest : (q : Placement) → LawfulPlacement d q → area s ≤ area (box (root d) q)
+
+module _ (d : Design) (before rows after rows' : List ℕ) (r : Planned) (x : Plans d before rows r after rows') (h : Enough d before rows) where
+  rows-good : (s : Shape) (p : Placement) → rows' ≡ rowsOut (d .modules) p ++ drop (rowsOf d) rows → Floorplan d s p → GoodPlan d s rows'
+  rows-good s p e f =
+      let t = lawful-tree d (h .lawful) in
+      let same : (k : ℕ) → So (has (root d) k) → p k ≡ fromRows rows' k = λ k i. rw e (sym (rows-back (d .modules) p (drop (rowsOf d) rows) k (t .modules k .0 i))) in
+      let w = lawful-same (root d) p (fromRows rows') same (f .lawful) in
+      record {
+        passes = passes-iff d (h .lawful) rows' .1 (rw e (simp (length-append, length-rows) (omega arith)), w);
+        apart = follow-apart (root d) (fromRows rows') (w .follows);
+        smallest = f .smallest;
+      }
+
+  -- plan answers with "no placement" and there is none, or with a box and a good plan
+  pub plan-answers : ((r ≡ Refused NoPlacement) × (rows' ≡ rows) × ((p : Placement) → LawfulPlacement d p → ⊥)) ⊎ ((s : Shape) × (r ≡ Box s) × GoodPlan d s rows')
+  plan-answers = ⊎-elim
+      (λ z. let (a, b) = x .none h (z .0) in inl (a, b, z .1))
+      (λ z. let (s, ch, (p, down, f)) = z in let (a, b) = x .done h s p ch down in inr (s, a, rows-good s p b f))
+      (planned d (h .lawful) (slotsOf d after) (x .listed h .1))
+
+  -- "no placement" is said exactly if no placement on the chip follows the tree and meets every need
+  pub none-exactly : (r ≡ Refused NoPlacement) ↔ ((p : Placement) → LawfulPlacement d p → ⊥)
+  none-exactly = (
+    λ e. ⊎-elim (λ z. z .2) (λ z. let (s, a, g) = z in let q : _≡_ {A = ℕ} 0 1 = cc in absurd (omega arith)) plan-answers,
+    λ f. ⊎-elim (λ z. z .0) (λ z. let (s, a, g) = z in absurd (f (fromRows rows') (passes-iff d (h .lawful) rows' .0 (g .passes) .1))) plan-answers,
+  )
+
+  -- place, over what list writes for the design, gives plan's reply, box and rows
+  pub place-as-plan : (listed out : List ℕ) (r' : Reply) (r'' : Planned) → Lists d before r' listed → Places d listed rows r'' out → (r'' ≡ r) × (out ≡ rows')
+  place-as-plan listed out r' r'' y z =
+      let (k, o) = x .listed h in let (_, k', o') = y .done (h .lawful) (h .bytes) in
+      let e = listed-once (d .width .0) (d .height .0) (SuitsOf d) (nodeAt d) (nodes d) before listed after k' k o' o in
+      let z' : Places d after rows r'' out = rw e at z in
+      let lent : Enough d after rows = record { lawful = h .lawful; bytes = rw (k .length) (h .bytes); places = h .places } in
+      let st = own-stairs d (h .lawful) (slotsOf d after) o in
+      ⊎-elim
+      (λ n. let (a, b) = x .none h (n .0) in let (a', b') = z' .none lent st (n .0) in (a' ∙ sym a, b' ∙ sym b))
+      (λ n. let (s, ch, (p, down, f)) = n in let (a, b) = x .done h s p ch down in let (a', b') = z' .done lent st s p ch down in (a' ∙ sym a, b' ∙ sym b))
+      (planned d (h .lawful) (slotsOf d after) o)
