@@ -7,7 +7,7 @@ use mathlib.Core.Bool.{So}
 use mathlib.Core.List.{List}
 use Prim.Native.Nat.{ℕ, _≤_, _<_}
 use native.Mathlib.Omega.{arith}
-use lib.ListN.{length}
+use lib.ListN.{length, take}
 use Rattle.rules.specs.declared.Corner.{Corner}
 use Rattle.rules.specs.declared.Design.{Design}
 use Rattle.rules.specs.declared.Edit.{Edit}
@@ -26,7 +26,7 @@ use Rattle.rules.proofs.Searching.{know}
 use Rattle.rules.proofs.Changing.{edit-lawful, edit-keeps}
 use Rattle.rules.proofs.Floorplans.{own-stairs}
 use Rattle.rules.proofs.Relisting.{relisted-own}
-use Rattle.rules.proofs.Working.{listed-once}
+use Rattle.rules.proofs.Working.{same-lists}
 use Rattle.promises.proofs.Planning.{place-as-plan}
 
 -- a lawful design with its full lists
@@ -69,3 +69,33 @@ run-own own (edit {now = now} {bytes = bytes} {bytes' = bytes'} {e = e} {r = r} 
     let o = run-own own run in
     ⊎-elim (λ g. rw (g .answer) (granted-own now e bytes bytes' o (g .names) (g .lists)))
     (λ z. let (_, a, b) = z in rw (a, b) o) (one-edit now e bytes bytes' r o x)
+
+-- Demand 3, its five parts, of a design and bytes that some run of edits has left.
+pub record Demand3 (d : Design) (work : List ℕ) : Type 0 where
+  -- (a) "An edit is refused only if it names no such module or cut or brings an unlawful need"
+  pub refused : (e : Edit) (r : Handed) (after : List ℕ) → Edits d e work r after → (r .reply ≡ Done → ⊥) → So (namesPlace d e) → ⊥
+  -- (b) "granted, it makes that one change"
+  pub granted : (e : Edit) (r : Handed) (after : List ℕ) → Edits d e work r after → So (namesPlace d e) → r ≡ record { reply = Done; design = changed d e }
+  -- (c) "After any run of edits the lists equal, byte for byte, a fresh listing of the design as it now stands"
+  pub fresh : (before listed : List ℕ) (r : Reply) → Lists d before r listed → workOf d ≤ length before → take (workOf d) work ≡ take (workOf d) listed
+  -- (d) "no granted edit has altered a list off the way from the edited node up to the root"
+  pub off : (e : Edit) (r : Handed) (after : List ℕ) → Edits d e work r after → So (namesPlace d e)
+      → (t : ℕ) (c : Corner) → t < nodes d → CornerOn (d .width .0) (d .height .0) c → (So (spans (nodeAt (changed d e) t) (changedNode d e)) → ⊥)
+      → (j : ℕ) → j < d .width .0 → slotsOf d after t c j ≡ slotsOf d work t c j
+  -- (e) place now gives what plan gives
+  pub place : (before rows after rows' out : List ℕ) (r r' : Planned) → Enough d before rows → Plans d before rows r after rows' → Places d work rows r' out
+      → (r' ≡ r) × (out ≡ rows')
+
+own-demand-3 : (d : Design) (work : List ℕ) → Own d work → Demand3 d work
+own-demand-3 d work own = record {
+  refused = λ e r after x f n. ⊎-elim (λ g. f (ap (λ h. h .reply) (g .answer))) (λ z. z .0 n) (one-edit d e work after r own x);
+  granted = λ e r after x n. ⊎-elim (λ g. g .answer) (λ z. absurd (z .0 n)) (one-edit d e work after r own x);
+  fresh = λ before listed r x h. let (_, k, l) = x .done (own .lawful) h in
+      same-lists (d .width .0) (d .height .0) (SuitsOf d) (nodeAt d) (nodes d) work listed (own .bytes) (rw (k .length) h) (own .lists) l;
+  off = λ e r after x n t c h on f j k. ⊎-elim (λ g. g .lists .off t c h on f j k) (λ z. absurd (z .0 n)) (one-edit d e work after r own x);
+  place = λ before rows after rows' out r r' h x z. place-as-plan d before rows after rows' r x h work out r' (own .bytes) (own .lists) z;
+}
+
+-- after any run
+pub any-run : {d now : Design} {work bytes : List ℕ} → Own d work → Run d work now bytes → Demand3 now bytes
+any-run {now = now} {bytes = bytes} own run = own-demand-3 now bytes (run-own own run)

@@ -5,7 +5,7 @@ use mathlib.Core.Path.{_≡_, refl, sym, _∙_, ap}
 use mathlib.Core.Logic.{_⊎_, inl, inr, ⊎-elim, _↔_}
 use mathlib.Core.Bool.{So}
 use mathlib.Core.List.{List, _++_}
-use Prim.Native.Nat.{ℕ, _+_, _≤_, _<_}
+use Prim.Native.Nat.{ℕ, _+_, _-_, _≤_, _<_}
 use native.Mathlib.Omega.{arith}
 use lib.ListN.{length, drop, length-append}
 use Rattle.rules.specs.declared.Corner.{Corner}
@@ -20,20 +20,20 @@ use Rattle.rules.specs.Placement.{Placement, ShareNoCell, box, area}
 use Rattle.rules.specs.Shape.{ShapeAt, Listed, Dominates}
 use Rattle.rules.specs.Slot.{Stores, CornerOn}
 use Rattle.rules.specs.Choice.{rowsOut}
-use Rattle.rules.specs.Design.{LawfulDesign, LawfulPlacement, nodeAt, nodes, root, SuitsOf, slotsOf, OwnLists}
+use Rattle.rules.specs.Design.{LawfulDesign, LawfulPlacement, nodeAt, nodes, root, SuitsOf, slotsOf, rootSlot, OwnLists}
 use Rattle.rules.specs.Check.{verdict, fromRows}
 use Rattle.rules.specs.Service.{Lists, Plans, Places, Enough, workOf, rowsOf}
 use Rattle.rules.proofs.Suiting.{design-decides}
-use Rattle.rules.proofs.Listing.{list-complete, list-sorted}
-use Rattle.rules.proofs.Nodes.{lawful-tree}
+use Rattle.rules.proofs.Listing.{list-complete, list-sorted, list-unique, same-stores}
+use Rattle.rules.proofs.Nodes.{lawful-tree, part-node, last-node}
+use Rattle.rules.proofs.Agreeing.{Agree, chosen-agree, down-agree}
 use Rattle.rules.proofs.Placing.{lawful-same}
-use Rattle.rules.specs.Tree.{has}
+use Rattle.rules.specs.Tree.{has, position}
+use Rattle.rules.specs.Chip.{corner}
 use Rattle.rules.proofs.Planning.{follow-apart}
-use Rattle.rules.proofs.Floorplans.{Floorplan, planned, no-placement, own-stairs}
+use Rattle.rules.proofs.Floorplans.{Floorplan, planned, own-stairs, corner-zero}
 use Rattle.rules.proofs.Checking.{passes-iff}
 use Rattle.rules.proofs.RowsOut.{length-rows, rows-back}
-use Rattle.rules.proofs.Working.{listed-once}
-use Rattle.promises.proofs.Unique.{places-once}
 
 -- "Each list is complete, sorted and free of dominated shapes": of the slot of each node at each corner of the chip
 pub record GoodList (d : Design) (t : ℕ) (c : Corner) (bytes : ℕ → ℕ) : Type 0 where
@@ -86,15 +86,28 @@ module _ (d : Design) (before rows after rows' : List ℕ) (r : Planned) (x : Pl
     λ f. ⊎-elim (λ z. z .0) (λ z. let (s, a, g) = z in absurd (f (fromRows rows') (passes-iff d (h .lawful) rows' .0 (g .passes) .1))) plan-answers,
   )
 
-  -- place, over what list writes for the design, gives plan's reply, box and rows
-  pub place-as-plan : (listed out : List ℕ) (r' : Reply) (r'' : Planned) → Lists d before r' listed → Places d listed rows r'' out → (r'' ≡ r) × (out ≡ rows')
-  place-as-plan listed out r' r'' y z =
-      let (k, o) = x .listed h in let (_, k', o') = y .done (h .lawful) (h .bytes) in
-      let e = listed-once (d .width .0) (d .height .0) (SuitsOf d) (nodeAt d) (nodes d) before listed after k' k o' o in
-      let z' : Places d after rows r'' out = rw e at z in
-      let lent : Enough d after rows = record { lawful = h .lawful; bytes = rw (k .length) (h .bytes); places = h .places } in
-      let st = own-stairs d (h .lawful) (slotsOf d after) o in
+  -- place, over the design's own lists wherever they stand, gives plan's reply, box and rows
+  pub place-as-plan : (work out : List ℕ) (r' : Planned) → workOf d ≤ length work → OwnLists d (slotsOf d work) → Places d work rows r' out → (r' ≡ r) × (out ≡ rows')
+  place-as-plan work out r' w own z =
+      let W = d .width .0 in let H = d .height .0 in let o = x .listed h .1 in
+      let lent : Enough d work rows = record { lawful = h .lawful; bytes = w; places = h .places } in
+      let st = own-stairs d (h .lawful) (slotsOf d work) own in
+      let same : (t : ℕ) → t < nodes d → Agree W H (slotsOf d after t) (slotsOf d work t) =
+      λ t b. record { at = λ c on. list-unique W (slotsOf d after t c) (slotsOf d work t c) (o t b c on) (own t b c on) } in
+      let root-same = same (nodes d - 1) (last-node d (h .lawful)) .at (corner 0 0) (corner-zero d (h .lawful)) in
       ⊎-elim
-      (λ n. let (a, b) = x .none h (n .0) in let (a', b') = z' .none lent st (n .0) in (a' ∙ sym a, b' ∙ sym b))
-      (λ n. let (s, ch, (p, down, f)) = n in let (a, b) = x .done h s p ch down in let (a', b') = z' .done lent st s p ch down in (a' ∙ sym a, b' ∙ sym b))
+      (λ n. let (a, b) = x .none h (n .0) in
+      let (a', b') = z .none lent st (λ s q. n .0 s (same-stores W (rootSlot d (slotsOf d work)) (rootSlot d (slotsOf d after)) (λ j g. sym (root-same j g)) s q)) in
+      (a' ∙ sym a, b' ∙ sym b))
+      (λ n. let (s, ch, (p, down, f)) = n in let (a, b) = x .done h s p ch down in
+      let (a', b') = z .done lent st s p (chosen-agree W (rootSlot d (slotsOf d after)) (rootSlot d (slotsOf d work)) root-same s ch)
+      (down-agree W H (SuitsOf d) (slotsOf d after) (slotsOf d work) (root d) (λ u q. same (position u) (part-node d (h .lawful) u q .0)) (corner 0 0) (corner-zero d (h .lawful)) s p down) in
+      (a' ∙ sym a, b' ∙ sym b))
       (planned d (h .lawful) (slotsOf d after) o)
+
+-- "place over what list writes gives plan's reply, box and rows"
+pub list-then-place : (d : Design) (before rows listed after out rows' : List ℕ) (r : Reply) (q r' : Planned)
+    → Enough d before rows → Lists d before r listed → Places d listed rows q out → Plans d before rows r' after rows' → (q ≡ r') × (out ≡ rows')
+list-then-place d before rows listed after out rows' r q r' h y z x =
+    let (_, k, own) = y .done (h .lawful) (h .bytes) in
+    place-as-plan d before rows after rows' r' x h listed out q (rw (k .length) (h .bytes)) own z

@@ -96,7 +96,7 @@ plans-once d before rows after after' rows' rows'' r r' x y = ⊎-elim
         let e = listed-once (d .width .0) (d .height .0) (SuitsOf d) (nodeAt d) (nodes d) before after after' k k' o o' in
         let y' : Plans d before rows r' after rows'' = rw (← e) at y in
         let (a, b) = ⊎-elim (λ z. both (x .none h (z .0)) (y' .none h (z .0)))
-            (λ z. let (s, ch, (p, down, _)) = z in both (x .done h s p ch down) (y' .done h s p ch down)) (planned d (h .lawful) (slotsOf d after) o) in (a, e, b)
+        (λ z. let (s, ch, (p, down, _)) = z in both (x .done h s p ch down) (y' .done h s p ch down)) (planned d (h .lawful) (slotsOf d after) o) in (a, e, b)
 
 -- from a shape of the root one goes down, or not
 goes-or-not : (d : Design) → LawfulDesign d → (slots : ℕ → Corner → ℕ → ℕ) (s : Shape) → ((p : Placement) × GoesDown d slots s p) ⊎ ((p : Placement) → GoesDown d slots s p → ⊥)
@@ -109,27 +109,29 @@ goes-or-not d l slots s =
 pub places-once : (d : Design) (work rows rows' rows'' : List ℕ) (r r' : Planned) → Places d work rows r rows' → Places d work rows r' rows'' → (r ≡ r') × (rows' ≡ rows'')
 places-once d work rows rows' rows'' r r' x y = ⊎-elim
     (λ l. ⊎-elim (λ h. ⊎-elim (over-stairs h) (λ f. both (x .stranger h f) (y .stranger h f)) (stairs-or-not (d .width .0) (d .height .0) (nodes d) (slotsOf d work)))
-      (λ h. both (x .short l h) (y .short l h)) (enough-both d work rows l))
+    (λ h. both (x .short l h) (y .short l h)) (enough-both d work rows l))
     (λ z. both (x .unlawful (z .0) (z .1)) (y .unlawful (z .0) (z .1))) (tested d)
   where
     over-stairs : Enough d work rows → AllStairs d (slotsOf d work) → (r ≡ r') × (rows' ≡ rows'')
     over-stairs h st = ⊎-elim (λ z. both (x .none h st (z .1)) (y .none h st (z .1)))
         (λ ch. ⊎-elim (λ z. both (x .done h st _ (z .0) ch (z .1)) (y .done h st _ (z .0) ch (z .1))) (λ f. both (x .lost h st _ ch f) (y .lost h st _ ch f))
-          (goes-or-not d (h .lawful) (slotsOf d work) _))
+        (goes-or-not d (h .lawful) (slotsOf d work) _))
         (chooses (d .width .0) (rootSlot d (slotsOf d work)))
 
 pub edits-once : (d : Design) (e : Edit) (before after after' : List ℕ) (r r' : Handed) → Edits d e before r after → Edits d e before r' after' → (r ≡ r') × (after ≡ after')
 edits-once d e before after after' r r' x y = ⊎-elim
     (λ l. ⊎-elim
-      (λ n. ⊎-elim (λ h. ⊎-elim (edited-both l n h) (λ f. both (x .stranger l n h f) (y .stranger l n h f)) (stairs-or-not (d .width .0) (d .height .0) (nodes d) (slotsOf d before)))
-        (λ h. both (x .short l n h) (y .short l n h)) (enough (workOf d) (length before)))
-      (λ f. both (x .unnamed l f) (y .unnamed l f)) (know (namesPlace d e)))
+    (λ n. ⊎-elim (λ h. ⊎-elim (edited-both l n h) (λ f. both (x .stranger l n h f) (y .stranger l n h f)) (stairs-or-not (d .width .0) (d .height .0) (nodes d) (slotsOf d before)))
+    (λ h. both (x .short l n h) (y .short l n h)) (enough (workOf d) (length before)))
+    (λ f. both (x .unnamed l f) (y .unnamed l f)) (know (namesPlace d e)))
     (λ z. both (x .unlawful (z .0) (z .1)) (y .unlawful (z .0) (z .1))) (tested d)
   where
     edited-both : LawfulDesign d → So (namesPlace d e) → workOf d ≤ length before → AllStairs d (slotsOf d before) → (r ≡ r') × (after ≡ after')
     edited-both l n h st =
         let (a, m) = x .done l n h st in let (a', m') = y .done l n h st in
-        let d' = changed d e in let l' = edit-lawful d l e n in let k = edit-keeps d e .nodes-same in
-        (a ∙ sym a', relisted-once (d .width .0) (d .height .0) (SuitsOf d') (nodeAt d') (nodes d) (changedNode d e) (root d')
-        (λ u q. let (b, i) = part-node d' l' u q in (rw k at b, i)) before after after' m m'
-        (λ t b. let b' : t < nodes d' = rw k b in (node-part d' l' t b', node-position (node-at d' l' t b'))))
+        let d' = changed d e in let l' = edit-lawful d l e n in let k = edit-keeps d e .nodes-same in (
+          a ∙ sym a',
+          relisted-once (d .width .0) (d .height .0) (SuitsOf d') (nodeAt d') (nodes d) (changedNode d e) (root d')
+              (λ u q. let (b, i) = part-node d' l' u q in (rw k at b, i)) before after after' m m'
+              (λ t b. let b' : t < nodes d' = rw k b in (node-part d' l' t b', node-position (node-at d' l' t b'))),
+        )

@@ -8,8 +8,8 @@ use Prim.Native.Nat.{ℕ, zero, suc, _+_, _*_, _/_, _%_, _≤_, _<_}
 use native.Mathlib.Omega.{arith}
 use native.Mathlib.Nat.{mul-le-mul-right, div-add-mod', mod-lt, div-lt-iff-lt-mul}
 use native.Mathlib.Decide.{decLt}
-use lib.ListN.{length, getD}
-use lib.Seq.{ext-getD}
+use lib.ListN.{length, getD, take}
+use lib.Seq.{ext-getD, length-take-le, getD-take}
 use Rattle.rules.specs.declared.Corner.{Corner}
 use Rattle.rules.specs.declared.Shape.{Shape}
 use Rattle.rules.specs.declared.Rectangle.{Rectangle}
@@ -83,6 +83,19 @@ pub listed-once : (W H : ℕ) (S : ℕ → Rectangle → Type 0) (node : ℕ →
     → FullLists W H S node n (slot W H after) → FullLists W H S node n (slot W H after') → after ≡ after'
 listed-once W H S node n before after after' k k' l l' =
     same-work W H n before after after' k k' (λ t c h on. list-unique W (slot W H after t c) (slot W H after' t c) (l t h c on) (l' t h c on))
+
+-- full lists are the same bytes, wherever they stand
+pub same-lists : (W H : ℕ) (S : ℕ → Rectangle → Type 0) (node : ℕ → Tree) (n : ℕ) (a b : List ℕ) → workNeeded W H n ≤ length a → workNeeded W H n ≤ length b
+    → FullLists W H S node n (slot W H a) → FullLists W H S node n (slot W H b) → take (workNeeded W H n) a ≡ take (workNeeded W H n) b
+unfolding slot
+same-lists W H S node n a b h k l m =
+    let e = length-take-le (workNeeded W H n) a h in
+    ext-getD 0 (take (workNeeded W H n) a) (take (workNeeded W H n) b) (e ∙ sym (length-take-le (workNeeded W H n) b k)) (λ i g. at i (omega arith))
+  where
+    at : (i : ℕ) → i < workNeeded W H n → getD (take (workNeeded W H n) a) i 0 ≡ getD (take (workNeeded W H n) b) i 0
+    at i g =
+        let (t, c, j, ht, on, hj, q) = in-some-slot W H n i g in
+        getD-take (workNeeded W H n) a i 0 g ∙ rw q at (list-unique W (slot W H a t c) (slot W H b t c) (l t ht c on) (m t ht c on) j hj) ∙ sym (getD-take (workNeeded W H n) b i 0 g)
 
 module _ (W H : ℕ) (S : ℕ → Rectangle → Type 0) (node : ℕ → Tree) (n p : ℕ) (tree : Tree)
     (parts : (u : Tree) → Part u tree → (position u < n) × (u ≡ node (position u))) (before after after' : List ℕ)
