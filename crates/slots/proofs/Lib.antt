@@ -1,0 +1,3 @@
+-- Laws of written bytes.
+pub mod Filling
+pub mod Writing

@@ -1,0 +1,83 @@
+-- A node's slots written one after the other: bytes of different slots stand apart, so each slot keeps what was put there.
+-- Assumes nothing.
+use mathlib.Core.Path.{_≡_, refl, _∙_}
+use mathlib.Core.Logic.{_⊎_, inl, inr, ⊎-elim}
+use mathlib.Core.Bool.{Bool, false, So}
+use mathlib.Core.List.{List}
+use Prim.Native.Nat.{ℕ, suc, _+_, _-_, _*_, _≤_, _<_}
+use native.Mathlib.Omega.{arith}
+use native.Mathlib.Nat.{mul-le-mul-right}
+use native.Mathlib.Decide.{decLe, decLt, ℕ-discrete}
+use Rattle.rules.specs.declared.Corner.{Corner}
+use Rattle.rules.specs.Slot.{slot, slotStart, CornerOn}
+use Rattle.rules.proofs.Searching.{absurd-so}
+use Rattle.rules.proofs.Working.{slots-apart, slot-within}
+use Rattle.slots.specs.Written.{SlotIs, PartIs, NodeIs}
+
+-- the same corner
+pub record SameCorner (c c' : Corner) : Type 0 where
+  pub column : c .x .0 ≡ c' .x .0
+  pub row : c .y .0 ≡ c' .y .0
+
+pub same-corner : {c c' : Corner} → SameCorner c c' → c ≡ c'
+same-corner e = λ i. record { x = record { 0 = e .column i }; y = record { 0 = e .row i } }
+
+pub corner-or-not : (c c' : Corner) → SameCorner c c' ⊎ (SameCorner c c' → ⊥)
+corner-or-not c c' = go (ℕ-discrete (c .x .0) (c' .x .0)) (ℕ-discrete (c .y .0) (c' .y .0))
+  where
+    go : Dec (c .x .0 ≡ c' .x .0) → Dec (c .y .0 ≡ c' .y .0) → SameCorner c c' ⊎ (SameCorner c c' → ⊥)
+    go (yes p) (yes q) = inl (record { column = p; row = q })
+    go (no p) q = inr (λ e. p (e .column))
+    go (yes p) (no q) = inr (λ e. q (e .row))
+
+-- a byte of the slot, or not
+in-slot-or-not : (a W i : ℕ) → ((j : ℕ) × (j < W) × (a + j ≡ i)) ⊎ ((i < a) ⊎ (a + W ≤ i))
+in-slot-or-not a W i = go (decLe a i) (decLt i (a + W))
+  where
+    go : Dec (a ≤ i) → Dec (i < a + W) → ((j : ℕ) × (j < W) × (a + j ≡ i)) ⊎ ((i < a) ⊎ (a + W ≤ i))
+    go (no p) q = inr (inl (omega arith))
+    go (yes p) (no q) = inr (inr (omega arith))
+    go (yes p) (yes q) = inl (i - a, omega arith, omega arith)
+
+-- the slot of another node, or at another corner, keeps its bytes
+pub other-slot : (W H t t' : ℕ) (c c' : Corner) (f : ℕ → ℕ) (before after : List ℕ) → SlotIs W H t c f before after
+    → CornerOn W H c → CornerOn W H c' → ((t ≡ t') × SameCorner c c' → ⊥) → (j : ℕ) → j < W → slot W H after t' c' j ≡ slot W H before t' c' j
+unfolding slot
+other-slot W H t t' c c' f before after z on on' o j h = ⊎-elim
+    (λ (k, l, e). let (a, x, y, _) = slots-apart W H t t' k j c c' on on' l h e in absurd (o (a, record { column = x; row = y })))
+    (z .outside (slotStart W H t' c' + j)) (in-slot-or-not (slotStart W H t c) W (slotStart W H t' c' + j))
+
+module _ (W H t : ℕ) (f : Corner → ℕ → ℕ) where
+  pub none-done : (before : List ℕ) → PartIs W H t f (λ _. false) before before
+  none-done before = record { long = refl; inside = λ c on s. absurd-so s; outside = λ i h. refl }
+
+  -- one corner more
+  pub one-done : (done done' : Corner → Bool) (before mid after : List ℕ) (c : Corner) → CornerOn W H c
+      → ((c' : Corner) → CornerOn W H c' → So (done' c') → So (done c') ⊎ SameCorner c c')
+      → ((c' : Corner) → CornerOn W H c' → So (done c') → So (done' c')) → So (done' c)
+      → PartIs W H t f done before mid → SlotIs W H t c (f c) mid after → PartIs W H t f done' before after
+  unfolding slot
+  one-done done done' before mid after c on out in' here p z = record {
+    long = z .long ∙ p .long;
+    inside = λ c' on' s j h. ⊎-elim (λ e. let q : c ≡ c' = same-corner e in rw (← q) (z .inside j h)) (λ o.
+        other-slot W H t t c c' (f c) mid after z on on' (λ e. o (e .1)) j h
+        ∙ ⊎-elim (λ d. p .inside c' on' d j h) (λ e. absurd (o e)) (out c' on' s)) (corner-or-not c c');
+    outside = λ i h. ⊎-elim (λ (j, k, e). absurd (h c on here j k e))
+        (λ a. z .outside i a ∙ p .outside i (λ c' on' d j k e. h c' on' (in' c' on' d) j k e)) (in-slot-or-not (slotStart W H t c) W i);
+  }
+
+  -- all corners done: the node is written
+  pub all-done : (done : Corner → Bool) (before after : List ℕ) → ((c : Corner) → CornerOn W H c → So (done c)) → PartIs W H t f done before after → NodeIs W H t f before after
+  all-done done before after every p = record {
+    long = p .long;
+    inside = λ c on. p .inside c on (every c on);
+    outside = λ i h. p .outside i (λ c on d j k e. ⊎-elim (λ u. below c on j k e u) (λ u. above c on j k e u) h);
+  }
+    where
+      below : {i : ℕ} (c : Corner) → CornerOn W H c → (j : ℕ) → j < W → slotStart W H t c + j ≡ i → i < t * H * W * W → ⊥
+      below c on j k e u =
+          let a : t * H * W ≤ (t * H + c .y .0) * W = mul-le-mul-right W (omega arith) in
+          let b : t * H * W * W ≤ ((t * H + c .y .0) * W + c .x .0) * W = mul-le-mul-right W (omega arith) in omega arith
+
+      above : {i : ℕ} (c : Corner) → CornerOn W H c → (j : ℕ) → j < W → slotStart W H t c + j ≡ i → suc t * H * W * W ≤ i → ⊥
+      above c on j k e u = let h = slot-within W H (suc t) t j c (omega arith) on k in omega arith
