@@ -4,9 +4,15 @@
 // The limits of the chip and of the modules, once for all arrays and tests.
 pub const MOST_COLUMNS: usize = 64;
 
+pub const MOST_ROWS: usize = 64;
+
+pub const LAST_KIND: u8 = 2;
+
 pub const MOST_MODULES: usize = 16;
 
 pub const MOST_TOKENS: usize = 31;
+
+pub const MOST_NUMBER: usize = 65535;
 
 // A number of columns: a width, or a place counted from the left. It never stands for rows.
 pub struct Columns(pub usize);

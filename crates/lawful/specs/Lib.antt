@@ -1,0 +1,2 @@
+-- What the reading of tokens keeps of the things standing.
+pub mod Stack

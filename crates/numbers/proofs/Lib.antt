@@ -1,0 +1,3 @@
+-- What the proofs share, and what a caller's proof cites.
+mod Lengths
+pub mod Answers
