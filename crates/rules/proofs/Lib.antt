@@ -17,7 +17,8 @@ pub mod Floorplans
 pub mod Checking
 pub mod RowsOut
 pub mod Numbers
--- pub mod Reading
+pub mod Reading
+pub mod Deciding
 pub mod Changing
 pub mod Relisting
 pub mod Working
