@@ -2,3 +2,4 @@
 pub mod Unique
 pub mod Planning
 pub mod Editing
+pub mod Copying
