@@ -97,3 +97,21 @@ relisted-own d e lawful names work work' own rel =
     (λ u q. let (h, r) = part-node d' lawful' u q in (rw (k .nodes-same) at h, r))
     (λ t h o. off-same d d' p (nodeAt d t) (nodeAt d' t) (k .chip) (edit-nodes d lawful e names t h) o) work work' own rel in
     rw (kw, kh) (λ t h c on. rw (node-position (node-at d' lawful' t h)) at (lists (nodeAt d' t) (node-part d' lawful' t h) c on))
+
+-- where every node is listed from what it is relisted from, the bytes are the design's own lists
+pub relists-own : (d : Design) → LawfulDesign d → (work : List ℕ)
+    → ((t : ℕ) → t < nodes d → (c : Corner) → CornerOn (d .width .0) (d .height .0) c
+    → IsListOf (d .width .0) (slotsOf d work t c) (Relists (d .width .0) (d .height .0) (SuitsOf d) work (nodeAt d t) c))
+    → OwnLists d (slotsOf d work)
+relists-own d lawful work made t h c on = rw (node-position (node-at d lawful t h)) at (go (nodeAt d t) (node-part d lawful t h) c on)
+  where
+    at : (u : Tree) → Part u (root d) → (c : Corner) → CornerOn (d .width .0) (d .height .0) c
+        → IsListOf (d .width .0) (slotsOf d work (position u) c) (Relists (d .width .0) (d .height .0) (SuitsOf d) work u c)
+    at u q c on = let (b, e) = part-node d lawful u q in rw (← e) at (made (position u) b c on)
+
+    go : (u : Tree) → Part u (root d) → ListsAt (d .width .0) (d .height .0) (SuitsOf d) (slotsOf d work (position u)) u
+    go (leaf t k) q = at (leaf t k) q
+    go (cut t e l r) q = let x = go l (part-left q) in let y = go r (part-right q) in λ c on s.
+        let m = at (cut t e l r) q c on s in
+        let p = pairings-list-the-cut (design-decides d) t e l r (slotsOf d work (position l)) (slotsOf d work (position r)) x y c s in
+        (λ z. p .0 (m .0 z), λ z. m .1 (p .1 z))

@@ -8,6 +8,7 @@ use Prim.Native.Nat.{ℕ, suc, _+_, _-_, _*_, _≤_, _<_}
 use native.Mathlib.Omega.{arith}
 use native.Mathlib.Nat.{mul-le-mul-right}
 use native.Mathlib.Decide.{decLe, decLt, ℕ-discrete}
+use lib.ListN.{getD}
 use Rattle.rules.specs.declared.Corner.{Corner}
 use Rattle.rules.specs.Slot.{slot, slotStart, CornerOn}
 use Rattle.rules.proofs.Searching.{absurd-so}
@@ -47,6 +48,12 @@ other-slot W H t t' c c' f before after z on on' o j h = ⊎-elim
     (λ (k, l, e). let (a, x, y, _) = slots-apart W H t t' k j c c' on on' l h e in absurd (o (a, record { column = x; row = y })))
     (z .outside (slotStart W H t' c' + j)) (in-slot-or-not (slotStart W H t c) W (slotStart W H t' c' + j))
 
+-- the addresses of a node's bytes
+pub node-from : (W H t j : ℕ) (c : Corner) → t * H * W * W ≤ slotStart W H t c + j
+node-from W H t j c =
+    let a : t * H * W ≤ (t * H + c .y .0) * W = mul-le-mul-right W (omega arith) in
+    let b : t * H * W * W ≤ ((t * H + c .y .0) * W + c .x .0) * W = mul-le-mul-right W (omega arith) in omega arith
+
 module _ (W H t : ℕ) (f : Corner → ℕ → ℕ) where
   pub none-done : (before : List ℕ) → PartIs W H t f (λ _. false) before before
   none-done before = record { long = refl; inside = λ c on s. absurd-so s; outside = λ i h. refl }
@@ -75,9 +82,24 @@ module _ (W H t : ℕ) (f : Corner → ℕ → ℕ) where
   }
     where
       below : {i : ℕ} (c : Corner) → CornerOn W H c → (j : ℕ) → j < W → slotStart W H t c + j ≡ i → i < t * H * W * W → ⊥
-      below c on j k e u =
-          let a : t * H * W ≤ (t * H + c .y .0) * W = mul-le-mul-right W (omega arith) in
-          let b : t * H * W * W ≤ ((t * H + c .y .0) * W + c .x .0) * W = mul-le-mul-right W (omega arith) in omega arith
+      below c on j k e u = let b = node-from W H t j c in omega arith
 
       above : {i : ℕ} (c : Corner) → CornerOn W H c → (j : ℕ) → j < W → slotStart W H t c + j ≡ i → suc t * H * W * W ≤ i → ⊥
       above c on j k e u = let h = slot-within W H (suc t) t j c (omega arith) on k in omega arith
+
+nodes-rise : (W H t t' : ℕ) → t ≤ t' → t * H * W * W ≤ t' * H * W * W
+nodes-rise W H t t' h = mul-le-mul-right W (mul-le-mul-right W (mul-le-mul-right H h))
+
+-- another node keeps its slots, and the bytes past all nodes stay
+pub node-other : (W H t t' : ℕ) (f : Corner → ℕ → ℕ) (before after : List ℕ) → NodeIs W H t f before after → (t ≡ t' → ⊥)
+    → (c : Corner) → CornerOn W H c → (j : ℕ) → j < W → slot W H after t' c j ≡ slot W H before t' c j
+unfolding slot
+node-other W H t t' f before after z o c on j h = z .outside (slotStart W H t' c + j) (go (decLt t' t))
+  where
+    go : Dec (t' < t) → (slotStart W H t' c + j < t * H * W * W) ⊎ (suc t * H * W * W ≤ slotStart W H t' c + j)
+    go (yes p) = inl (let a = slot-within W H (suc t') t' j c (omega arith) on h in let b = nodes-rise W H (suc t') t p in omega arith)
+    go (no p) = inr (let a = node-from W H t' j c in let b = nodes-rise W H (suc t) t' (omega arith) in omega arith)
+
+pub past-nodes : (W H t n : ℕ) (f : Corner → ℕ → ℕ) (before after : List ℕ) → NodeIs W H t f before after → t < n
+    → (i : ℕ) → n * H * W * W ≤ i → getD after i 0 ≡ getD before i 0
+past-nodes W H t n f before after z h i k = let b = nodes-rise W H (suc t) n h in z .outside i (inr (omega arith))

@@ -1,0 +1,2 @@
+-- Laws of a pass over the nodes.
+pub mod Passing

@@ -1,0 +1,1 @@
+// All nodes of a design, or those on the way of an edit, listed child before parent.
