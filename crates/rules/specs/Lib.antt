@@ -12,6 +12,7 @@ pub mod Bytes
 pub mod Check
 pub mod Reply
 pub mod Service
+pub mod Program
 pub mod Test
 pub mod Bench
 pub mod Figures
