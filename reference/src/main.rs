@@ -1,9 +1,11 @@
 //! The independent implementation of the planner's services, and what is run with it.
 //!
 //! `reference vectors FOLDER` runs stored cases, `reference examples` the bench examples,
-//! `reference random SEED COUNT` the services on random designs against the definitions, and
-//! `reference plan` the plan program on standard input.
+//! `reference random SEED COUNT` the services on random designs against the definitions,
+//! `reference plan` the plan program on standard input, and `reference ask` answers requests;
+//! `reference requests FILE` makes requests of stored cases.
 
+mod ask;
 mod bytes;
 mod check;
 mod chip;
@@ -29,7 +31,9 @@ use std::process::ExitCode;
 const USAGE: &str = "usage: reference vectors FOLDER
        reference examples
        reference random SEED COUNT
-       reference plan < FILE";
+       reference plan < FILE
+       reference ask < REQUESTS
+       reference requests FILE";
 
 fn main() -> ExitCode {
     let arguments: Vec<String> = env::args().skip(1).collect();
@@ -39,6 +43,11 @@ fn main() -> ExitCode {
         ["examples"] => Ok(examples::run()),
         ["random", seed, count] => random_designs(seed, count),
         ["plan"] => plan_standard_input(),
+        ["ask"] => ask_standard_input(),
+        ["requests", file] => ask::requests(Path::new(file)).map(|text| {
+            print!("{text}");
+            true
+        }),
         _ => Err(USAGE.to_string()),
     };
     match outcome {
@@ -64,5 +73,13 @@ fn plan_standard_input() -> Result<bool, String> {
     let text = program::plan_program(&input);
     let mut out = io::stdout().lock();
     out.write_all(text.as_bytes()).map_err(|e| e.to_string())?;
+    Ok(true)
+}
+
+fn ask_standard_input() -> Result<bool, String> {
+    let mut input = Vec::new();
+    let mut stdin = io::stdin().lock();
+    stdin.read_to_end(&mut input).map_err(|e| e.to_string())?;
+    print!("{}", ask::answers(&input));
     Ok(true)
 }

@@ -1,0 +1,6 @@
+-- Laws of a leaf's list.
+pub mod Limiting
+pub mod Holding
+pub mod Counting
+pub mod Lowering
+pub mod Trying

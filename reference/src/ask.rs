@@ -1,0 +1,389 @@
+//! Answers requests as the program `ask` does, from the page docs/ASK.md, and makes requests of
+//! stored cases.
+
+use std::fmt::Write;
+use std::fs;
+use std::path::Path;
+
+use crate::bytes::{read, write};
+use crate::check::check;
+use crate::chip::{Amounts, Columns, Rows};
+use crate::choice::{place, plan, PlaceReply};
+use crate::design::{Design, ALL_ZEROS};
+use crate::edit::{edit, Edit};
+use crate::json::{parse, Json};
+use crate::lists::list;
+
+const MOST_LINE: usize = 16_384;
+const MOST_WORK: usize = 2_097_152;
+const MOST_ROWS: usize = 1_024;
+const MOST_WRITTEN: usize = 4_096;
+const MOST_READ: usize = 4_096;
+
+/// What is held between requests.
+struct Held {
+    design: Design,
+    work: Vec<u8>,
+    rows: Vec<u8>,
+}
+
+/// The answers to all requests, a line each.
+pub fn answers(requests: &[u8]) -> String {
+    let mut held = Held {
+        design: ALL_ZEROS,
+        work: Vec::new(),
+        rows: Vec::new(),
+    };
+    let mut text = String::new();
+    let mut lines: Vec<&[u8]> = requests.split(|&byte| byte == b'\n').collect();
+    if lines.last() == Some(&&b""[..]) {
+        lines.pop();
+    }
+    for (i, line) in lines.iter().enumerate() {
+        let answer = if line.len() < MOST_LINE {
+            std::str::from_utf8(line).ok().and_then(|line| held.answer(line))
+        } else {
+            None
+        };
+        match answer {
+            Some(answer) if answer.is_empty() => {}
+            Some(answer) => writeln!(text, "{answer}").unwrap(),
+            None => writeln!(text, "bad {}", i + 1).unwrap(),
+        }
+    }
+    text
+}
+
+impl Held {
+    /// The answer to one line, empty if there is none to give; or nothing, if the line is bad.
+    fn answer(&mut self, line: &str) -> Option<String> {
+        if line.is_empty() || line.starts_with('#') {
+            return Some(String::new());
+        }
+        let words: Vec<&str> = line.split(' ').collect();
+        match words[..] {
+            ["design", w, h, b, kinds, m, needs, tokens] => {
+                self.design = design([w, h, b, kinds, m, needs, tokens])?;
+                Some(String::new())
+            }
+            ["work", n, fill] => {
+                self.work = lent(n, fill, MOST_WORK)?;
+                Some(String::new())
+            }
+            ["rows", n, fill] => {
+                self.rows = lent(n, fill, MOST_ROWS)?;
+                Some(String::new())
+            }
+            ["poke", at, bytes] => put(&mut self.work, at, bytes),
+            ["row", at, bytes] => put(&mut self.rows, at, bytes),
+            ["read", bytes] => self.read(bytes),
+            ["write", n, fill] => self.write(n, fill),
+            ["list"] => {
+                let number = list(&self.design, &mut self.work);
+                Some(format!("list {number} {}", hash(&self.work)))
+            }
+            ["plan"] => {
+                let reply = plan(&self.design, &mut self.work, &mut self.rows);
+                Some(self.floorplan("plan", reply))
+            }
+            ["place"] => {
+                let reply = place(&self.design, &self.work, &mut self.rows);
+                Some(self.floorplan("place", reply))
+            }
+            ["check"] => {
+                let reply = check(&self.design, &self.rows);
+                Some(format!("check {} {}", reply.number, reply.name))
+            }
+            ["edit", "turn", t] => self.edit(Edit::Turn {
+                position: number(t)?,
+            }),
+            ["edit", "need", k, clbs, rams, multipliers] => self.edit(Edit::Need {
+                module: number(k)?,
+                need: Amounts {
+                    clbs: number(clbs)?,
+                    rams: number(rams)?,
+                    multipliers: number(multipliers)?,
+                },
+            }),
+            _ => None,
+        }
+    }
+
+    fn read(&mut self, word: &str) -> Option<String> {
+        let bytes = bytes(word)?;
+        if bytes.len() > MOST_READ {
+            return None;
+        }
+        let reply = read(&bytes);
+        self.design = reply.design;
+        let (number, position) = (reply.number, reply.position);
+        Some(format!("read {number} {position} {}", shown(&self.design)))
+    }
+
+    fn write(&self, n: &str, fill: &str) -> Option<String> {
+        let mut out = lent(n, fill, MOST_WRITTEN)?;
+        let reply = write(&self.design, &mut out);
+        Some(format!("write {} {} {}", reply.number, reply.count, hex(&out)))
+    }
+
+    fn floorplan(&self, service: &str, reply: PlaceReply) -> String {
+        let (number, w, h) = (reply.number, reply.box_width, reply.box_height);
+        format!("{service} {number} {w} {h} {} {}", hex(&self.rows), hash(&self.work))
+    }
+
+    fn edit(&mut self, change: Edit) -> Option<String> {
+        let reply = edit(&self.design, change, &mut self.work);
+        self.design = reply.design;
+        let work = hash(&self.work);
+        Some(format!("edit {} {} {work}", reply.number, shown(&self.design)))
+    }
+}
+
+/// A decimal number of at most 18 digits.
+fn number(word: &str) -> Option<usize> {
+    let digits = !word.is_empty() && word.len() <= 18 && word.bytes().all(|b| b.is_ascii_digit());
+    if digits {
+        word.parse().ok()
+    } else {
+        None
+    }
+}
+
+fn bytes(word: &str) -> Option<Vec<u8>> {
+    if word == "-" {
+        return Some(Vec::new());
+    }
+    let digit = |byte: u8| match byte {
+        b'0'..=b'9' => Some(byte - b'0'),
+        b'a'..=b'f' => Some(byte - b'a' + 10),
+        _ => None,
+    };
+    if word.is_empty() || word.len() % 2 != 0 {
+        return None;
+    }
+    word.as_bytes()
+        .chunks(2)
+        .map(|pair| Some(16 * digit(pair[0])? + digit(pair[1])?))
+        .collect()
+}
+
+fn lent(n: &str, fill: &str, most: usize) -> Option<Vec<u8>> {
+    let (n, fill) = (number(n)?, number(fill)?);
+    if n > most || fill > 255 {
+        return None;
+    }
+    Some(vec![fill as u8; n])
+}
+
+fn put(lent: &mut [u8], at: &str, word: &str) -> Option<String> {
+    let (at, bytes) = (number(at)?, bytes(word)?);
+    let end = at.checked_add(bytes.len())?;
+    lent.get_mut(at..end)?.copy_from_slice(&bytes);
+    Some(String::new())
+}
+
+fn design([w, h, b, kinds, m, needs, tokens]: [&str; 7]) -> Option<Design> {
+    let mut design = ALL_ZEROS;
+    design.chip.width = Columns(number(w)?);
+    design.chip.height = Rows(number(h)?);
+    design.chip.block = Rows(number(b)?);
+    design.modules = number(m)?;
+    for (i, kind) in bytes(kinds)?.into_iter().enumerate() {
+        *design.chip.kinds.get_mut(i)? = usize::from(kind);
+    }
+    for (i, token) in bytes(tokens)?.into_iter().enumerate() {
+        *design.tokens.get_mut(i)? = usize::from(token);
+    }
+    if needs != "-" {
+        let numbers: Option<Vec<usize>> = needs.split(',').map(number).collect();
+        let numbers = numbers?;
+        for (k, three) in numbers.chunks(3).enumerate() {
+            let place = design.needs.get_mut(k)?;
+            place.clbs = three[0];
+            place.rams = three.get(1).copied().unwrap_or(0);
+            place.multipliers = three.get(2).copied().unwrap_or(0);
+        }
+    }
+    Some(design)
+}
+
+/// A design in words, zeros at the ends left out.
+fn shown(design: &Design) -> String {
+    let chip = &design.chip;
+    let mut needs = Vec::new();
+    for need in &design.needs {
+        needs.extend([need.clbs, need.rams, need.multipliers]);
+    }
+    let needs: Vec<String> = trimmed(&needs).iter().map(usize::to_string).collect();
+    let needs = if needs.is_empty() {
+        "-".to_string()
+    } else {
+        needs.join(",")
+    };
+    format!(
+        "{} {} {} {} {} {needs} {}",
+        chip.width.0,
+        chip.height.0,
+        chip.block.0,
+        small(&chip.kinds),
+        design.modules,
+        small(&design.tokens)
+    )
+}
+
+fn trimmed(numbers: &[usize]) -> &[usize] {
+    let length = numbers.iter().rposition(|&n| n != 0).map_or(0, |i| i + 1);
+    &numbers[..length]
+}
+
+fn small(numbers: &[usize]) -> String {
+    hex(&trimmed(numbers).iter().map(|&n| n as u8).collect::<Vec<u8>>())
+}
+
+fn hex(bytes: &[u8]) -> String {
+    if bytes.is_empty() {
+        return "-".to_string();
+    }
+    bytes.iter().map(|byte| format!("{byte:02x}")).collect()
+}
+
+/// FNV-1a with 64 bits.
+fn hash(bytes: &[u8]) -> String {
+    let mut hash = 0xcbf2_9ce4_8422_2325_u64;
+    for &byte in bytes {
+        hash = (hash ^ u64::from(byte)).wrapping_mul(0x0100_0000_01b3);
+    }
+    format!("{hash:016x}")
+}
+
+/// The requests that ask one file of stored cases.
+pub fn requests(file: &Path) -> Result<String, String> {
+    let text = fs::read_to_string(file).map_err(|e| e.to_string())?;
+    let name = file.file_name().and_then(|name| name.to_str()).unwrap_or("");
+    let mut requests = String::new();
+    for line in text.lines() {
+        let case = parse(line)?;
+        if case.find("wide").is_some() && !held_in_bytes(&case)? {
+            continue;
+        }
+        let asked = match name {
+            "base_read.jsonl" => format!("read {}\n", hex_or_none(&case, "in")?),
+            "base_write.jsonl" => asked_design(&case)? + &lending("write", &case, "out_len")?,
+            "base_list.jsonl" => asked_design(&case)? + &lending("work", &case, "work_len")? + "list\n",
+            "base_plan.jsonl" => {
+                let work = lending("work", &case, "work_len")?;
+                asked_design(&case)? + &work + &lending("rows", &case, "rows_len")? + "plan\n"
+            }
+            "base_check.jsonl" => asked_design(&case)? + &given_rows(&case)? + "check\n",
+            "base_place.jsonl" => {
+                let rows = lending("rows", &case, "rows_len")?;
+                given_work(&case)? + &rows + &asked_design(&case)? + "place\n"
+            }
+            "base_edit.jsonl" => {
+                let change = asked_edit(case.field("edit")?)?;
+                given_work(&case)? + &asked_design(&case)? + &change
+            }
+            "base_runs.jsonl" => asked_run(&case)?,
+            _ => return Err(format!("{name}: no requests of such cases")),
+        };
+        requests += &asked;
+    }
+    Ok(requests)
+}
+
+/// Kinds and tokens of a request are bytes.
+fn held_in_bytes(case: &Json) -> Result<bool, String> {
+    let Some(design) = case.find("design") else {
+        return Ok(true);
+    };
+    let mut numbers = design.field("kinds")?.numbers()?;
+    numbers.extend(design.field("tokens")?.numbers()?);
+    Ok(numbers.iter().all(|&n| n < 256))
+}
+
+fn hex_or_none(case: &Json, field: &str) -> Result<String, String> {
+    Ok(hex(&case.field(field)?.hex()?))
+}
+
+fn asked_design(case: &Json) -> Result<String, String> {
+    design_request(case.field("design")?)
+}
+
+fn design_request(stored: &Json) -> Result<String, String> {
+    let number = |field: &str| stored.field(field)?.number();
+    let small = |field: &str| -> Result<String, String> {
+        let numbers = stored.field(field)?.numbers()?;
+        Ok(hex(&numbers.iter().map(|&n| n as u8).collect::<Vec<u8>>()))
+    };
+    let mut needs = Vec::new();
+    for need in stored.field("needs")?.list()? {
+        needs.extend(need.numbers()?.iter().map(usize::to_string));
+    }
+    let needs = if needs.is_empty() {
+        "-".to_string()
+    } else {
+        needs.join(",")
+    };
+    Ok(format!(
+        "design {} {} {} {} {} {needs} {}\n",
+        number("W")?,
+        number("H")?,
+        number("B")?,
+        small("kinds")?,
+        number("m")?,
+        small("tokens")?
+    ))
+}
+
+fn lending(word: &str, case: &Json, length: &str) -> Result<String, String> {
+    let (n, fill) = (case.field(length)?.number()?, case.field("fill")?.number()?);
+    Ok(format!("{word} {n} {fill}\n"))
+}
+
+fn given_rows(case: &Json) -> Result<String, String> {
+    let rows = case.field("rows")?.hex()?;
+    Ok(format!("rows {} 0\nrow 0 {}\n", rows.len(), hex(&rows)))
+}
+
+/// Work that is given, or the lists of another design with some bytes changed.
+fn given_work(case: &Json) -> Result<String, String> {
+    if let Some(work) = case.find("work") {
+        let work = work.hex()?;
+        let mut asked = format!("work {} 0\n", work.len());
+        for (i, part) in work.chunks(4096).enumerate() {
+            writeln!(asked, "poke {} {}", 4096 * i, hex(part)).unwrap();
+        }
+        return Ok(asked);
+    }
+    let listed = case.field("work_of")?;
+    let w = listed.field("W")?.number()?;
+    let size = (2 * listed.field("m")?.number()? - 1) * listed.field("H")?.number()? * w * w;
+    let mut asked = design_request(listed)? + &format!("work {size} 0\nlist\n");
+    for poke in case.field("pokes")?.list()? {
+        let numbers = poke.numbers()?;
+        writeln!(asked, "poke {} {:02x}", numbers[0], numbers[1]).unwrap();
+    }
+    Ok(asked)
+}
+
+fn asked_edit(stored: &Json) -> Result<String, String> {
+    match stored.list()? {
+        [kind, k, numbers] if kind.text()? == "need" => {
+            let n = numbers.numbers()?;
+            Ok(format!("edit need {} {} {} {}\n", k.number()?, n[0], n[1], n[2]))
+        }
+        [_, t] => Ok(format!("edit turn {}\n", t.number()?)),
+        _ => Err("neither a need nor a turn".to_string()),
+    }
+}
+
+fn asked_run(case: &Json) -> Result<String, String> {
+    let design = case.field("design")?;
+    let (m, w) = (design.field("m")?.number()?, design.field("W")?.number()?);
+    let size = (2 * m - 1) * design.field("H")?.number()? * w * w;
+    let mut asked = design_request(design)? + &format!("work {size} 0\nlist\n");
+    for step in case.field("steps")?.list()? {
+        asked += &asked_edit(step.field("edit")?)?;
+    }
+    Ok(asked + &format!("rows {} 0\nplace\n", 4 * m))
+}
