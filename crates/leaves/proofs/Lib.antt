@@ -4,3 +4,4 @@ pub mod Holding
 pub mod Counting
 pub mod Lowering
 pub mod Trying
+pub mod Covering

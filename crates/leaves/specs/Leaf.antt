@@ -41,6 +41,23 @@ pub record LeafRoom (b : Board) (t : ℕ) (c : Corner) (kinds work : List ℕ) :
   pub node : t < 128
   pub slot : slotStart (b .width .0) (b .height .0) t c + b .width .0 ≤ length work
 
+-- what listing all its corners asks for
+pub record NodeRoom (b : Board) (t : ℕ) (ks work : List ℕ) : Type 0 where
+  pub columns : b .width .0 ≤ mostColumns
+  pub rows : b .height .0 ≤ mostRows
+  pub block : 1 ≤ b .block .0
+  pub blocks : b .block .0 ≤ b .height .0
+  pub kinds : b .width .0 ≤ length ks
+  pub node : t < 128
+  pub slots : suc t * b .height .0 * b .width .0 * b .width .0 ≤ length work
+
+-- the corners of row y before column x; the corners of the rows below row y
+abbrev pub inRow : ℕ → ℕ → Corner → Bool
+inRow y x c = eqb (c .y .0) y && ltb (c .x .0) x
+
+abbrev pub below : ℕ → Corner → Bool
+below y c = ltb (c .y .0) y
+
 -- how many blocks of B rows stand whole between two rows: those that end at or below the upper one, less those that start below the lower one
 unfoldable pub wholeBlocks : ℕ → ℕ → ℕ → ℕ
 wholeBlocks B c d = d / B - (c + (B - 1)) / B

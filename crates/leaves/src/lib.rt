@@ -9,8 +9,8 @@ ghost use mathlib.Core.Path.{_≡_};
 ghost use Prim.Native.Nat.{_-_, _*_, _≤_, _<_};
 ghost use lib.Dec.{leb};
 ghost use Rattle.rules.specs.Design.{mostColumns, mostRows};
-ghost use Rattle.slots.specs.Written.{SlotIs};
-ghost use Rattle.leaves.specs.Leaf.{leafBytes, CornerRoom, LeafRoom, wholeBlocks, suitsIn, Within, StopsAt, oneMore, heightTo, Trials, listedOf};
+ghost use Rattle.slots.specs.Written.{SlotIs, PartIs, NodeIs};
+ghost use Rattle.leaves.specs.Leaf.{leafBytes, CornerRoom, LeafRoom, NodeRoom, inRow, wholeBlocks, suitsIn, Within, StopsAt, oneMore, heightTo, Trials, listedOf};
 
 // How many columns of each kind lie side by side.
 struct ByKind {
@@ -140,5 +140,25 @@ pub fn leaf_slot(work: &mut [u8], board: Board, kinds: &[u8], need: Need, t: usi
         let height = heights[j];
         work[start + j] = listed(height, before);
         before = height;
+    }
+}
+
+// Lists the corners of a leaf in one row.
+fn leaf_row(work: &mut [u8], board: Board, kinds: &[u8], need: Need, t: usize, y: Rows)
+    requires { ⌜ NodeRoom board t (now kinds) (now work) × (y .0 < board .height .0) ⌝ }
+    ensures { λ _. ⌜ PartIs (board .width .0) (board .height .0) t (leafBytes board (now (kinds .entry)) need) (inRow (y .0) (board .width .0)) (now (work .entry)) (now (work .exit)) ⌝ }
+{
+    for x in 0..board.width.0 {
+        leaf_slot(work, board, kinds, need, t, Corner { x: Columns(x), y });
+    }
+}
+
+// Lists all corners of a leaf.
+pub fn leaf_node(work: &mut [u8], board: Board, kinds: &[u8], need: Need, t: usize)
+    requires { ⌜ NodeRoom board t (now kinds) (now work) ⌝ }
+    ensures { λ _. ⌜ NodeIs (board .width .0) (board .height .0) t (leafBytes board (now (kinds .entry)) need) (now (work .entry)) (now (work .exit)) ⌝ }
+{
+    for y in 0..board.height.0 {
+        leaf_row(work, board, kinds, need, t, Rows(y));
     }
 }

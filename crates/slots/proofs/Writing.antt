@@ -11,7 +11,7 @@ use native.Mathlib.Decide.{decLe, decLt, ℕ-discrete}
 use lib.ListN.{getD}
 use Rattle.rules.specs.declared.Corner.{Corner}
 use Rattle.rules.specs.Slot.{slot, slotStart, CornerOn}
-use Rattle.rules.proofs.Searching.{absurd-so}
+use Rattle.rules.proofs.Searching.{absurd-so, know}
 use Rattle.rules.proofs.Working.{slots-apart, slot-within}
 use Rattle.slots.specs.Written.{SlotIs, PartIs, NodeIs}
 
@@ -71,6 +71,21 @@ module _ (W H t : ℕ) (f : Corner → ℕ → ℕ) where
         ∙ ⊎-elim (λ d. p .inside c' on' d j h) (λ e. absurd (o e)) (out c' on' s)) (corner-or-not c c');
     outside = λ i h. ⊎-elim (λ (j, k, e). absurd (h c on here j k e))
         (λ a. z .outside i a ∙ p .outside i (λ c' on' d j k e. h c' on' (in' c' on' d) j k e)) (in-slot-or-not (slotStart W H t c) W i);
+  }
+
+  -- some corners, and then others
+  pub both-done : (done more all : Corner → Bool) (before mid after : List ℕ)
+      → ((c : Corner) → CornerOn W H c → So (all c) → So (done c) ⊎ So (more c))
+      → ((c : Corner) → CornerOn W H c → So (done c) → So (all c)) → ((c : Corner) → CornerOn W H c → So (more c) → So (all c))
+      → PartIs W H t f done before mid → PartIs W H t f more mid after → PartIs W H t f all before after
+  unfolding slot
+  both-done done more all before mid after out in-done in-more p q = record {
+    long = q .long ∙ p .long;
+    inside = λ c on s j h. ⊎-elim (λ m. q .inside c on m j h) (λ o.
+        q .outside (slotStart W H t c + j) (λ c' on' m k l e.
+        let (_, x, y, _) = slots-apart W H t t k j c' c on' on l h e in o (rw (same-corner (record { column = x; row = y })) at m))
+        ∙ ⊎-elim (λ d. p .inside c on d j h) (λ m. absurd (o m)) (out c on s)) (know (more c));
+    outside = λ i h. q .outside i (λ c on m. h c on (in-more c on m)) ∙ p .outside i (λ c on d. h c on (in-done c on d));
   }
 
   -- all corners done: the node is written
