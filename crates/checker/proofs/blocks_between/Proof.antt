@@ -1,0 +1,33 @@
+-- `checker::blocks_between` meets its contract: the difference is taken only where it is one, and is 0 otherwise, as the subtraction of
+-- numbers is.
+-- Assumes nothing.
+use mathlib.Core.Path.{refl}
+use native.Mathlib.Omega.{arith}
+use native.Mathlib.Nat.{div-le-self}
+use borrow.Author.Needs.{needs}
+use Rattle.checker.specs.Modules.{blocksBetween}
+use Rattle.checker.proofs.blocks_between.Statement.{statement}
+use Rattle.checker.proofs.blocks_between.Tie as tie
+
+sub-first : tie.Need-sub-first
+sub-first c = search needs
+
+add-first : tie.Need-add-first
+add-first c = search needs
+
+div-first : tie.Need-div-first
+div-first c = search needs
+
+div-end : tie.Need-div-end
+div-end c = search needs
+
+returns : tie.Need-returns
+unfolding blocksBetween
+returns c = (refl, omega (arith, div-le-self (c .before .before .before .args .far .0) (c .before .before .before .args .block .0)))
+
+returns-2 : tie.Need-returns-2
+unfolding blocksBetween
+returns-2 c = (omega arith, omega arith)
+
+pub blocks-between-spec : {M : Type 1} → statement M
+blocks-between-spec = tie.close (tie.spec sub-first add-first div-first div-end returns returns-2)

@@ -1,0 +1,3 @@
+-- What the checker's functions compute, step by step.
+pub mod Modules
+pub mod Cuts

@@ -1,0 +1,332 @@
+// The checker's judgement of a floorplan: from the design and the rows alone, with no lists.
+use rules::Columns;
+use rules::Corner;
+use rules::Design;
+use rules::Direction;
+use rules::MOST_TOKENS;
+use rules::Need;
+use rules::Rectangle;
+use rules::Refusal;
+use rules::Reply;
+use rules::Rows;
+use rules::Shape;
+use rules::Token;
+ghost use mathlib.Core.Path.{_≡_};
+ghost use Prim.Native.Nat.{_+_, _*_, _-_, _≤_, _<_, min, max};
+ghost use lib.ListN.{length};
+ghost use Rattle.rules.specs.Chip.{OnChip, holds};
+ghost use Rattle.rules.specs.Tree.{tokenOf};
+ghost use Rattle.rules.specs.Design.{mostColumns, mostRows, mostModules, chipOf, LawfulDesign};
+ghost use Rattle.rules.specs.Check.{fromRows, isOnChip, isAtMost, judgedCuts, judgedRows};
+ghost use Rattle.checker.specs.Modules.{Limits, Bytes, EachUpTo, blocksBetween, withColumn, judgedModule};
+ghost use Rattle.checker.specs.Cuts.{extentOf, together, endsBefore, atStart, afterModule, afterCut, afterToken, Ready};
+
+// The sides of what lies below a node: the least left and bottom, the greatest right and top of its modules' rectangles.
+struct Extent {
+    pub low: Corner,
+    pub far: Corner,
+}
+
+// A pass over the tokens: the extents of the things standing, how many there are, and whether the last cut was kept.
+struct Pass {
+    pub extents: [Extent; MOST_TOKENS],
+    pub standing: usize,
+    pub kept: bool,
+}
+
+// The rectangle of module k, from its four bytes.
+fn rectangle_at(rows: &[u8], k: usize) -> Rectangle
+    requires { ⌜ (k < mostModules) × (4 * k + 3 < length (now rows)) ⌝ }
+    ensures { λ r. ⌜ (r ≡ fromRows (now (rows .entry)) k) × Bytes r ⌝ }
+{
+    let at = 4 * k;
+    let corner = Corner {
+        x: Columns(rows[at] as usize),
+        y: Rows(rows[at + 1] as usize),
+    };
+    let shape = Shape {
+        w: Columns(rows[at + 2] as usize),
+        h: Rows(rows[at + 3] as usize),
+    };
+    Rectangle { corner, shape }
+}
+
+// Neither side is zero, and the rectangle ends on the chip.
+fn is_on_chip(width: Columns, height: Rows, r: Rectangle) -> bool
+    requires { ⌜ Bytes r ⌝ }
+    ensures { λ is. ⌜ is ≡ isOnChip (width .0) (height .0) r ⌝ }
+{
+    if r.shape.w.0 < 1 {
+        return false;
+    }
+    if r.shape.h.0 < 1 {
+        return false;
+    }
+    if width.0 < r.corner.x.0 + r.shape.w.0 {
+        return false;
+    }
+    r.corner.y.0 + r.shape.h.0 <= height.0
+}
+
+// How many blocks stand whole in the rows from low to before far, where each is so many rows high.
+fn blocks_between(block: Rows, low: Rows, far: Rows) -> usize
+    requires { ⌜ (0 < block .0) × (block .0 ≤ mostRows) × (low .0 ≤ mostRows) × (far .0 ≤ mostRows) ⌝ }
+    ensures { λ r. ⌜ (r ≡ blocksBetween (block .0) (low .0) (far .0)) × (r ≤ mostRows) ⌝ }
+{
+    let high = block.0;
+    let first = (low.0 + (high - 1)) / high;
+    let end = far.0 / high;
+    if first <= end { end - first } else { 0 }
+}
+
+// What is held with one column more, which adds what it holds of its own kind.
+fn with_column(held: Need, kind: u8, column: Need) -> Need
+    requires { ⌜ EachUpTo (mostColumns * mostRows) held × EachUpTo mostRows column ⌝ }
+    ensures { λ r. ⌜ r ≡ withColumn held kind column ⌝ }
+{
+    let clbs = held.clbs;
+    let rams = held.rams;
+    let multipliers = held.multipliers;
+    match kind {
+        0 => Need {
+            clbs: clbs + column.clbs,
+            rams,
+            multipliers,
+        },
+        1 => Need {
+            clbs,
+            rams: rams + column.rams,
+            multipliers,
+        },
+        2 => Need {
+            clbs,
+            rams,
+            multipliers: multipliers + column.multipliers,
+        },
+        _ => held,
+    }
+}
+
+// What a rectangle on the chip holds of each kind, counted column by column.
+fn held(d: Design, r: Rectangle) -> Need
+    requires { ⌜ Limits d × OnChip (d .width .0) (d .height .0) r ⌝ }
+    ensures { λ n. ⌜ n ≡ holds (chipOf d) r ⌝ }
+{
+    let blocks = blocks_between(d.block, r.corner.y, Rows(r.corner.y.0 + r.shape.h.0));
+    let column = Need {
+        clbs: r.shape.h.0,
+        rams: blocks,
+        multipliers: blocks,
+    };
+    let left = r.corner.x.0;
+    let right = left + r.shape.w.0;
+    let mut held = Need {
+        clbs: 0,
+        rams: 0,
+        multipliers: 0,
+    };
+    for x in left..right {
+        held = with_column(held, d.kinds[x], column);
+    }
+    held
+}
+
+// What is held is at least the need, of each kind.
+fn is_at_most(need: Need, held: Need) -> bool
+    ensures { λ r. ⌜ r ≡ isAtMost need held ⌝ }
+{
+    if held.clbs < need.clbs {
+        return false;
+    }
+    if held.rams < need.rams {
+        return false;
+    }
+    need.multipliers <= held.multipliers
+}
+
+// The reply to module k alone: off the chip before short of its need.
+fn judge_module(d: Design, rows: &[u8], k: usize) -> Reply
+    requires { ⌜ Limits d × (k < d .modules) × (4 * d .modules ≤ length (now rows)) ⌝ }
+    ensures { λ r. ⌜ r ≡ judgedModule d (fromRows (now (rows .entry))) k ⌝ }
+{
+    let r = rectangle_at(rows, k);
+    if !is_on_chip(d.width, d.height, r) {
+        return Reply::Refused(Refusal::OffTheChip(k));
+    }
+    if !is_at_most(d.needs[k], held(d, r)) {
+        return Reply::Refused(Refusal::ShortOfNeed(k));
+    }
+    Reply::Done
+}
+
+// What a token's byte says.
+fn token_of(byte: u8) -> Token
+    ensures { λ r. ⌜ r ≡ tokenOf mostModules byte ⌝ }
+{
+    match byte {
+        0 => Token::Cut(Direction::Vertical),
+        1 => Token::Cut(Direction::Horizontal),
+        2..=17 => Token::Module((byte - 2) as usize),
+        _ => Token::Beyond,
+    }
+}
+
+// The lesser of two left sides.
+fn leftmost(a: Columns, b: Columns) -> Columns
+    ensures { λ r. ⌜ r .0 ≡ min (a .0) (b .0) ⌝ }
+{
+    if a.0 < b.0 { a } else { b }
+}
+
+// The lesser of two bottom sides.
+fn lowest(a: Rows, b: Rows) -> Rows
+    ensures { λ r. ⌜ r .0 ≡ min (a .0) (b .0) ⌝ }
+{
+    if a.0 < b.0 { a } else { b }
+}
+
+// The greater of two right sides.
+fn rightmost(a: Columns, b: Columns) -> Columns
+    ensures { λ r. ⌜ r .0 ≡ max (a .0) (b .0) ⌝ }
+{
+    if a.0 < b.0 { b } else { a }
+}
+
+// The greater of two top sides.
+fn highest(a: Rows, b: Rows) -> Rows
+    ensures { λ r. ⌜ r .0 ≡ max (a .0) (b .0) ⌝ }
+{
+    if a.0 < b.0 { b } else { a }
+}
+
+// The extent of a module's rectangle.
+fn extent_of(r: Rectangle) -> Extent
+    requires { ⌜ Bytes r ⌝ }
+    ensures { λ e. ⌜ e ≡ extentOf r ⌝ }
+{
+    let low = r.corner;
+    let far = Corner {
+        x: Columns(r.corner.x.0 + r.shape.w.0),
+        y: Rows(r.corner.y.0 + r.shape.h.0),
+    };
+    Extent { low, far }
+}
+
+// The extent of two things together.
+fn together(l: Extent, r: Extent) -> Extent
+    ensures { λ e. ⌜ e ≡ together l r ⌝ }
+{
+    let low = Corner {
+        x: leftmost(l.low.x, r.low.x),
+        y: lowest(l.low.y, r.low.y),
+    };
+    let far = Corner {
+        x: rightmost(l.far.x, r.far.x),
+        y: highest(l.far.y, r.far.y),
+    };
+    Extent { low, far }
+}
+
+// The left child ends at or before the place where the right child begins.
+fn is_kept(direction: Direction, l: Extent, r: Extent) -> bool
+    ensures { λ is. ⌜ is ≡ endsBefore direction l r ⌝ }
+{
+    match direction {
+        Direction::Vertical => l.far.x.0 <= r.low.x.0,
+        Direction::Horizontal => l.far.y.0 <= r.low.y.0,
+    }
+}
+
+// The pass after a module's token: its extent is put on top.
+fn after_module(pass: Pass, extent: Extent) -> Pass
+    requires { ⌜ pass .standing < 2 * mostModules - 1 ⌝ }
+    ensures { λ r. ⌜ r ≡ afterModule pass extent ⌝ }
+{
+    let standing = pass.standing;
+    let mut extents = pass.extents;
+    extents[standing] = extent;
+    Pass {
+        extents,
+        standing: standing + 1,
+        kept: true,
+    }
+}
+
+// The pass after a cut's token: it joins the two things standing last, and is kept or not.
+fn after_cut(pass: Pass, direction: Direction) -> Pass
+    requires { ⌜ (2 ≤ pass .standing) × (pass .standing < 2 * mostModules) ⌝ }
+    ensures { λ r. ⌜ r ≡ afterCut pass direction ⌝ }
+{
+    let standing = pass.standing;
+    let mut extents = pass.extents;
+    let l = extents[standing - 2];
+    let r = extents[standing - 1];
+    extents[standing - 2] = together(l, r);
+    Pass {
+        extents,
+        standing: standing - 1,
+        kept: is_kept(direction, l, r),
+    }
+}
+
+// The pass after one token more.
+fn after_token(pass: Pass, token: Token, rows: &[u8]) -> Pass
+    requires { ⌜ Ready (now rows) (pass .standing) token ⌝ }
+    ensures { λ r. ⌜ r ≡ afterToken (fromRows (now (rows .entry))) pass token ⌝ }
+{
+    match token {
+        Token::Cut(direction) => after_cut(pass, direction),
+        Token::Module(k) => after_module(pass, extent_of(rectangle_at(rows, k))),
+        Token::Beyond => pass,
+    }
+}
+
+// The pass before the first token.
+fn at_start() -> Pass
+    ensures { λ r. ⌜ r ≡ atStart ⌝ }
+{
+    let corner = Corner {
+        x: Columns(0),
+        y: Rows(0),
+    };
+    let nowhere = Extent {
+        low: corner,
+        far: corner,
+    };
+    Pass {
+        extents: [nowhere; MOST_TOKENS],
+        standing: 0,
+        kept: true,
+    }
+}
+
+// The reply to the cuts, in token order.
+fn judge_cuts(d: Design, rows: &[u8]) -> Reply
+    requires { ⌜ LawfulDesign d × Limits d × (4 * d .modules ≤ length (now rows)) ⌝ }
+    ensures { λ r. ⌜ r ≡ judgedCuts d (fromRows (now (rows .entry))) ⌝ }
+{
+    let nodes = 2 * d.modules - 1;
+    let mut pass = at_start();
+    for t in 0..nodes {
+        pass = after_token(pass, token_of(d.tokens[t]), rows);
+        if !pass.kept {
+            return Reply::Refused(Refusal::CutNotKept(t));
+        }
+    }
+    Reply::Done
+}
+
+// The reply to a floorplan in rows, for a lawful design and rows enough: modules in order, then cuts in token order.
+pub fn judge_rows(d: Design, rows: &[u8]) -> Reply
+    requires { ⌜ LawfulDesign d × (4 * d .modules ≤ length (now rows)) ⌝ }
+    ensures { λ r. ⌜ r ≡ judgedRows d (fromRows (now (rows .entry))) ⌝ }
+{
+    let modules = d.modules;
+    for k in 0..modules {
+        let reply = judge_module(d, rows, k);
+        let Reply::Done = reply else {
+            return reply;
+        };
+    }
+    judge_cuts(d, rows)
+}

@@ -1,0 +1,2 @@
+-- How the stair test goes over the bytes.
+pub mod Walk

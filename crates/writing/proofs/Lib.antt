@@ -1,0 +1,5 @@
+-- What the proofs share.
+mod Limits
+mod Lengths
+mod Putting
+mod Answers
