@@ -31,8 +31,7 @@ fn lesser(a: usize, b: usize) -> usize
     if a < b { a } else { b }
 }
 
-// Walks along the bytes of a slot from place j to before end. What it keeps is the height that the next nonzero byte has to stay
-// below, and it answers 0 where one does not, or stands off the chip.
+// The height that the next nonzero byte has to stay below, after a slot's bytes from start to before end; 0 if they are no stair.
 fn walk(work: &[u8], from: usize, columns: usize, start: usize, end: usize, first: u8) -> u8
     requires { ⌜ (from + end ≤ length (now work)) × (start ≤ end) ⌝ }
     ensures { λ r. ⌜ r ≡ lowAfter columns (bytesFrom (now (work .entry)) from) start (end - start) first ⌝ }

@@ -1,7 +1,7 @@
 -- The slot is walked in parts: eight zeros change nothing, and any other part goes byte by byte. While the loop goes on, what is
 -- left of the walk gives what all of it gives, and the walk along the whole slot decides whether it is a stair. Assumes nothing.
 use mathlib.Core.Path.{sym, _∙_}
-use Prim.Native.Nat.{_+_, _-_, _≤_, _<_}
+use Prim.Native.Nat.{_-_, _≤_, _<_}
 use native.Mathlib.Omega.{arith}
 use borrow.Author.Needs.{needs}
 use Rattle.stairs.specs.Walk.{bytesFrom}
@@ -14,15 +14,6 @@ Inv-loop work from width columns low₀ j₀ low j = (j ≤ width) × (0 < low) 
 
 abbrev μ-loop : tie.MeasureT-loop
 μ-loop work from width columns low₀ j₀ low j = width - j
-
--- where the walk has come once a part of the slot has been walked
-walked : (c : tie.After-walk Inv-loop μ-loop)
-    → let a = c .before .before .before .before .before .before .before .before .before .args in let W = a .board .width .0 in
-    Walking (W - a .at .x .0) (bytesFrom (a .work .now) (a .from)) 0 W (a .board .height .0 - a .at .y .0 + 1)
-    (c .before .lesser .result) (c .walk .result)
-walked c =
-    let e = c .before .lesser .ensures in
-    run-walked (c .before .before .before .before .loop .inv .2) _ _ (omega arith) (omega arith) (c .walk .ensures)
 
 sub-columns : tie.Need-sub-columns Inv-loop μ-loop
 sub-columns c = search needs
@@ -70,13 +61,17 @@ walk-requires : tie.Need-walk-requires Inv-loop μ-loop
 walk-requires c κs = omega (arith, c .lesser .ensures)
 
 returns : tie.Need-returns Inv-loop μ-loop
-returns c = no-stair _ _ _ _ (rw (c .if3 .taken) at (walked (c .before)))
+returns c =
+    let w = c .before in let e = w .before .lesser .ensures in let l = w .before .before .before .before .loop in
+    no-stair _ _ _ _ (run-walked (l .inv .2) (w .before .lesser .result) 0 (omega arith) (omega arith) (sym (c .if3 .taken) ∙ w .walk .ensures))
 
 loop-less-2 : tie.Need-loop-less-2 Inv-loop μ-loop
 loop-less-2 c = omega (arith, c .before .before .lesser .ensures)
 
 loop-again-2 : tie.Need-loop-again-2 Inv-loop μ-loop
-loop-again-2 c = (omega (arith, c .before .before .lesser .ensures), omega (arith, c .if3 .left), walked (c .before))
+loop-again-2 c =
+    let w = c .before in let e = w .before .lesser .ensures in let l = w .before .before .before .before .loop in
+    (omega arith, omega (arith, c .if3 .left), run-walked (l .inv .2) _ _ (omega arith) (omega arith) (w .walk .ensures))
 
 returns-2 : tie.Need-returns-2 Inv-loop μ-loop
 returns-2 c = stair-walked _ _ _ _ (c .before .loop .inv .2) (omega arith) (c .before .loop .inv .1)

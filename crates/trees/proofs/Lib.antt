@@ -1,0 +1,6 @@
+-- Laws of the tree as positions.
+pub mod Arrays
+pub mod Seeking
+pub mod Lefts
+pub mod Ways
+pub mod Places

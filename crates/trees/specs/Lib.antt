@@ -1,0 +1,2 @@
+-- The tree of a design as positions.
+pub mod Positions
