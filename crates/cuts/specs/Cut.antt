@@ -1,0 +1,165 @@
+-- How the slots of a cut node are computed. At a corner the code keeps, for each right side that a box can have, the least top side
+-- of a box that ends there or before. The right child's slots are filled first, a whole line of corners at a time: at each right
+-- side then stands the least top side of a shape that ends there or before. A side that no shape reaches has H + 1.
+use mathlib.Core.Path.{_≡_}
+use mathlib.Core.Logic.{_⊎_}
+use mathlib.Core.Bool.{Bool, true, false, _&&_}
+use mathlib.Core.List.{List}
+use Prim.Native.Nat.{ℕ, zero, suc, _+_, _-_, _*_, _≤_, _<_, min, max}
+use lib.Dec.{leb, ltb, eqb}
+use lib.ListN.{length, getD}
+use Rattle.rules.specs.declared.Direction.{Direction}
+use Rattle.rules.specs.declared.Corner.{Corner}
+use Rattle.rules.specs.Chip.{corner}
+use Rattle.rules.specs.Slot.{slot, workNeeded, CornerOn}
+use Rattle.rules.specs.Design.{mostColumns, mostRows}
+use Rattle.rules.specs.Test.{grid, across, onlyIf, listByte, pairTest}
+use Rattle.slots.specs.declared.Board.{Board}
+
+-- what a node's slots ask of the chip's size and of the lent bytes
+pub record Roomy (board : Board) (t : ℕ) (work : List ℕ) : Type 0 where
+  pub columns : board .width .0 ≤ mostColumns
+  pub rows : board .height .0 ≤ mostRows
+  pub node : t < 128
+  pub bytes : workNeeded (board .width .0) (board .height .0) (suc t) ≤ length work
+
+-- and what a cut's slots ask: its children are nodes before it
+pub record Cuttable (board : Board) (t left right : ℕ) (work : List ℕ) : Type 0 where
+  pub room : Roomy board t work
+  pub first : left < t
+  pub second : right < t
+
+-- the slots that a cut node is to have, from its children's: "the undominated ones among all pairings of the children's stored shapes"
+unfoldable pub pairedSlot : Direction → ℕ → ℕ → List ℕ → ℕ → ℕ → Corner → ℕ → ℕ
+pairedSlot d W H work left right c =
+    listByte H (pairTest d W H (grid (slot W H work left)) (grid (slot W H work right))) (c .x .0) (c .y .0)
+
+-- The sizes of the code's buffers. `chunk` top sides are laid at a time, so a line's slots and a corner's top sides have that many
+-- bytes more than there are right sides.
+abbrev pub chunk : ℕ
+chunk = 16
+
+abbrev pub rowSize : ℕ
+rowSize = mostColumns + chunk
+
+abbrev pub lineSize : ℕ
+lineSize = mostColumns * rowSize
+
+abbrev pub topsSize : ℕ
+topsSize = 2 * mostColumns + chunk
+
+-- the slots on a board, and the corners
+abbrev pub slotsOn : Board → List ℕ → ℕ → Corner → ℕ → ℕ
+slotsOn B work t = slot (B .width .0) (B .height .0) work t
+
+abbrev pub OnBoard : Board → Corner → Type 0
+OnBoard B c = CornerOn (B .width .0) (B .height .0) c
+
+-- The lines of corners that a cut's pairs stay on: a vertical cut's is a row of corners, a horizontal cut's a column.
+abbrev pub cornerAt : Direction → ℕ → ℕ → Corner
+cornerAt d line place = corner (across d place line) (across d line place)
+
+abbrev pub lineOf : Direction → Corner → ℕ
+lineOf d c = across d (c .y .0) (c .x .0)
+
+abbrev pub placeOf : Direction → Corner → ℕ
+placeOf d c = across d (c .x .0) (c .y .0)
+
+abbrev pub lines : Direction → Board → ℕ
+lines d B = across d (B .height .0) (B .width .0)
+
+abbrev pub places : Direction → Board → ℕ
+places d B = across d (B .width .0) (B .height .0)
+
+-- the lower of a number and a height, where 0 is no height
+unfoldable pub lowered : ℕ → ℕ → ℕ
+lowered low h = elim (eqb h 0) [ true ↦ low | false ↦ min low h ]
+
+-- the least of start and the first n heights
+unfoldable pub leastOf : ℕ → (ℕ → ℕ) → ℕ → ℕ
+leastOf start f zero = start
+leastOf start f (suc n) = lowered (leastOf start f n) (f n)
+
+-- the least top side among the first n shapes of a slot at row y, or H + 1
+unfoldable pub slotTop : ℕ → ℕ → (ℕ → ℕ) → ℕ → ℕ
+slotTop H y bytes n = y + leastOf (suc (H - y)) bytes n
+
+-- n bytes of a list, from a place on
+abbrev pub bytesFrom : List ℕ → ℕ → ℕ → ℕ
+bytesFrom l from k = getD l (from + k) 0
+
+-- the least top sides of a node's slots on a line, by place and right side: as they are computed, and as they stand in the line's bytes
+abbrev pub lineTop : Direction → Board → (Corner → ℕ → ℕ) → ℕ → ℕ → ℕ → ℕ
+lineTop d B slots line p b = slotTop (B .height .0) (across d line p) (slots (cornerAt d line p)) (b - across d p line)
+
+abbrev pub heldTop : List ℕ → ℕ → ℕ → ℕ
+heldTop filled p b = getD filled (p * rowSize + b) 0
+
+-- past the chip's last column a line's bytes hold no top side
+pub record TailsNone (B : Board) (filled : List ℕ) : Type 0 where
+  pub long : length filled ≡ lineSize
+  pub at : (p b : ℕ) → p < mostColumns → B .width .0 < b → b < rowSize → heldTop filled p b ≡ suc (B .height .0)
+
+-- the slots at the first n places of a line are filled
+pub record LineFilled (d : Direction) (B : Board) (slots : Corner → ℕ → ℕ) (line n : ℕ) (filled : List ℕ) : Type 0 where
+  pub tails : TailsNone B filled
+  pub at : (p b : ℕ) → p < n → across d p line < b → b ≤ B .width .0 → heldTop filled p b ≡ lineTop d B slots line p b
+
+-- The left shape of width i + 1 and height h at a corner has boxes with right shapes beside it that end at the right side b or
+-- before: the right child's corner is on the chip, and so is b.
+unfoldable pub hasBox : Direction → Board → Corner → ℕ → ℕ → ℕ → Bool
+hasBox d B c i h b =
+    ltb 0 h && leb (c .y .0 + h) (B .height .0) && ltb (across d (c .x .0 + suc i) (c .y .0 + h)) (places d B)
+    && leb (c .x .0 + suc i) b && ltb (across d (c .x .0 + suc i) (c .x .0)) b && leb b (B .width .0)
+
+-- the top side of the lowest such box, which is the greater of the two shapes'; `tops` has the right child's least top sides on the
+-- line. 0 where there is no box.
+abbrev pub greaterTop : Direction → (ℕ → ℕ → ℕ) → Corner → ℕ → ℕ → ℕ → ℕ
+greaterTop d tops c i h b = max (c .y .0 + h) (tops (across d (c .x .0 + suc i) (c .y .0 + h)) b)
+
+unfoldable pub boxTop : Direction → Board → (ℕ → ℕ → ℕ) → Corner → ℕ → ℕ → ℕ → ℕ
+boxTop d B tops c i h b = onlyIf (hasBox d B c i h b) (greaterTop d tops c i h b)
+
+-- the least top side of all boxes of the left slot's first n shapes that end at b or before, or H + 1
+unfoldable pub leastTop : Direction → Board → (ℕ → ℕ → ℕ) → Corner → (ℕ → ℕ) → ℕ → ℕ → ℕ
+leastTop d B tops c bytes n b = leastOf (suc (B .height .0)) (λ i. boxTop d B tops c i (bytes i) b) n
+
+-- a byte of the slot: the height to the top side, where that is lower than at the right side before
+unfoldable pub keptByte : ℕ → ℕ → ℕ → ℕ
+keptByte y before top = onlyIf (ltb top before) (top - y)
+
+unfoldable pub laidSlot : Direction → Board → (ℕ → ℕ → ℕ) → Corner → (ℕ → ℕ) → ℕ → ℕ
+laidSlot d B tops c bytes j =
+    let top = leastTop d B tops c bytes (B .width .0 - c .x .0) in keptByte (c .y .0) (top (c .x .0 + j)) (top (c .x .0 + suc j))
+
+-- the top sides from column x on
+pub record TopsAre (x : ℕ) (f : ℕ → ℕ) (tops : List ℕ) : Type 0 where
+  pub long : length tops ≡ topsSize
+  pub at : (b : ℕ) → x ≤ b → b < topsSize → getD tops b 0 ≡ f b
+
+-- what the pairing of a left shape asks: no top side yet is over H + 1
+pub record Pairable (B : Board) (c : Corner) (line tops : List ℕ) : Type 0 where
+  pub columns : B .width .0 ≤ mostColumns
+  pub rows : B .height .0 ≤ mostRows
+  pub corner : OnBoard B c
+  pub tails : TailsNone B line
+  pub long : length tops ≡ topsSize
+  pub low : (b : ℕ) → c .x .0 ≤ b → b < topsSize → getD tops b 0 ≤ suc (B .height .0)
+
+-- top sides lowered to those of a filled slot that ends no lower than `top`
+abbrev pub laidTop : List ℕ → ℕ → ℕ → List ℕ → ℕ → ℕ → ℕ
+laidTop tops to top line from k = min (getD tops (to + k) 0) (max top (getD line (from + k) 0))
+
+-- `after` holds f at n bytes from a on, and perhaps up to the end of a chunk; all other bytes are those of `before`
+pub record Laid (before : List ℕ) (a n : ℕ) (f : ℕ → ℕ) (after : List ℕ) : Type 0 where
+  pub long : length after ≡ length before
+  pub below : (k : ℕ) → k < a → getD after k 0 ≡ getD before k 0
+  pub inside : (k : ℕ) → k < n → getD after (a + k) 0 ≡ f k
+  pub beyond : (k : ℕ) → n ≤ k → ((suc k < n + chunk) × (getD after (a + k) 0 ≡ f k)) ⊎ (getD after (a + k) 0 ≡ getD before (a + k) 0)
+
+-- the corners at the first n places of a line, and those of all lines before one
+abbrev pub onLine : Direction → ℕ → ℕ → Corner → Bool
+onLine d line n c = eqb (lineOf d c) line && ltb (placeOf d c) n
+
+abbrev pub beforeLine : Direction → ℕ → Corner → Bool
+beforeLine d line c = ltb (lineOf d c) line

@@ -1,0 +1,2 @@
+-- What the code of a cut node computes on the way.
+pub mod Cut
