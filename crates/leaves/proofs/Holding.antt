@@ -14,7 +14,7 @@ use Rattle.rules.specs.declared.Design.{Design}
 use Rattle.rules.specs.Search.{count, total}
 use Rattle.rules.specs.Chip.{Column, columnOf, coversBlock, heldBetween}
 use Rattle.rules.specs.Design.{chipOf}
-use Rattle.rules.proofs.Searching.{know, eqb-iff, test-iffs, count-yes, count-no, count-le}
+use Rattle.rules.proofs.Searching.{know, eqb-iff, test-iffs, count-yes, count-no, count-le, total-yes, total-no}
 use Rattle.leaves.specs.Leaf.{chipWith, wholeBlocks, blocksOf}
 
 -- the chip of a design
@@ -69,19 +69,6 @@ kind-is : (H B k : ℕ) → columnOf H B k .kind ≡ k
 unfolding columnOf
 kind-is H B zero = refl
 kind-is H B (suc k) = refl
-
--- one number more in a sum; rules has these two, shut
-total-yes : (n : ℕ) (f : ℕ → Bool) (u : ℕ → ℕ) → So (f n) → total (suc n) f u ≡ u n + total n f u
-unfolding total
-total-yes n f u t = rw (t, total)
-
-total-no : (n : ℕ) (f : ℕ → Bool) (u : ℕ → ℕ) → (So (f n) → ⊥) → total (suc n) f u ≡ total n f u
-unfolding total
-total-no n f u t = go (f n) t
-  where
-    go : (b : Bool) → (So b → ⊥) → elim b as (λ _. ℕ) [ true ↦ u n + total n f u | false ↦ total n f u ] ≡ total n f u
-    go true t = absurd (t refl)
-    go false t = refl
 
 -- where a sum adds the same amount for each of the n numbers from a on that pass, it is their count times that amount
 total-count : (p : ℕ → Bool) (u : ℕ → ℕ) (a n v : ℕ) → ((x : ℕ) → So (p x) → u x ≡ v)

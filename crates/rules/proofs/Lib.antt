@@ -2,6 +2,7 @@
 pub mod Searching
 pub mod Standing
 pub mod Nodes
+pub mod Limits
 pub mod Rooms
 pub mod Fitting
 pub mod Suiting

@@ -217,11 +217,11 @@ count-none zero = refl
 count-none (suc n) = count-none n
 
 -- sums
-total-yes : (n : ℕ) (f : ℕ → Bool) (u : ℕ → ℕ) → So (f n) → total (suc n) f u ≡ u n + total n f u
+pub total-yes : (n : ℕ) (f : ℕ → Bool) (u : ℕ → ℕ) → So (f n) → total (suc n) f u ≡ u n + total n f u
 unfolding total
 total-yes n f u t = rw (t, total)
 
-total-no : (n : ℕ) (f : ℕ → Bool) (u : ℕ → ℕ) → (So (f n) → ⊥) → total (suc n) f u ≡ total n f u
+pub total-no : (n : ℕ) (f : ℕ → Bool) (u : ℕ → ℕ) → (So (f n) → ⊥) → total (suc n) f u ≡ total n f u
 unfolding total
 total-no n f u t = go (f n) t
   where

@@ -1,5 +1,4 @@
 -- What the proofs share.
-mod Limits
 mod Lengths
 mod Putting
 mod Answers

@@ -1,7 +1,7 @@
 -- The parts' bytes, which are few, since there are at most 64 columns and 16 modules. Assumes nothing.
 use native.Mathlib.Omega.{arith}
 use borrow.Author.Needs.{needs}
-use Rattle.writing.proofs.Limits.{limits}
+use Rattle.rules.proofs.Limits.{limits}
 use Rattle.writing.proofs.Lengths.{length-design, design-short}
 use Rattle.writing.proofs.design_len.Statement.{statement}
 use Rattle.writing.proofs.design_len.Tie as tie

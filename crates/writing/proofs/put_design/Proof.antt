@@ -2,7 +2,7 @@
 -- stood past it stays. Assumes nothing.
 use native.Mathlib.Omega.{arith}
 use borrow.Author.Needs.{needs}
-use Rattle.writing.proofs.Limits.{limits}
+use Rattle.rules.proofs.Limits.{limits}
 use Rattle.writing.proofs.Lengths.{design-parts, length-design}
 use Rattle.writing.proofs.Putting.{both-put, put-in-front}
 use Rattle.writing.proofs.put_design.Statement.{statement}

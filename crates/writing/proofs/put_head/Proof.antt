@@ -2,7 +2,7 @@
 use native.Mathlib.Omega.{arith}
 use borrow.Author.Needs.{needs}
 use Rattle.writing.specs.Parts.{headBytes}
-use Rattle.writing.proofs.Limits.{limits}
+use Rattle.rules.proofs.Limits.{limits}
 use Rattle.writing.proofs.Lengths.{length-head}
 use Rattle.writing.proofs.Putting.{number-put, both-put}
 use Rattle.writing.proofs.put_head.Statement.{statement}

@@ -3,7 +3,7 @@
 use native.Mathlib.Omega.{arith}
 use borrow.Author.Needs.{needs}
 use Rattle.writing.specs.Parts.{modulesBytes}
-use Rattle.writing.proofs.Limits.{limits}
+use Rattle.rules.proofs.Limits.{limits}
 use Rattle.writing.proofs.Lengths.{length-modules}
 use Rattle.writing.proofs.Putting.{number-put, both-put}
 use Rattle.writing.proofs.put_modules.Statement.{statement}

@@ -2,7 +2,7 @@
 use native.Mathlib.Omega.{arith}
 use borrow.Author.Needs.{needs}
 use Rattle.rules.specs.Bytes.{needBytes}
-use Rattle.writing.proofs.Limits.{need-limits}
+use Rattle.rules.proofs.Limits.{need-limits}
 use Rattle.writing.proofs.Lengths.{length-need}
 use Rattle.writing.proofs.Putting.{number-put, both-put}
 use Rattle.writing.proofs.put_need.Statement.{statement}

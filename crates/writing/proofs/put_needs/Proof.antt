@@ -6,7 +6,7 @@ use borrow.Author.Needs.{needs}
 use Rattle.rules.specs.Design.{needAt}
 use Rattle.rules.specs.Bytes.{needBytes, rowBytes}
 use Rattle.writing.specs.Put.{Put}
-use Rattle.writing.proofs.Limits.{limits}
+use Rattle.rules.proofs.Limits.{limits}
 use Rattle.writing.proofs.Putting.{same-room, row-begun, row-grown, next-fits}
 use Rattle.writing.proofs.put_needs.Statement.{statement}
 use Rattle.writing.proofs.put_needs.Tie as tie
