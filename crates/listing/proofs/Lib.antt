@@ -1,2 +1,3 @@
 -- Laws of a pass over the nodes.
 pub mod Passing
+mod Nodes

@@ -1,30 +1,33 @@
 -- A pass over the nodes, child before parent. A node's new slots hang on its children's, which stand before it and are not touched again;
 -- so what was listed stays listed. Assumes nothing.
 use mathlib.Core.Path.{_≡_, refl, sym, _∙_, ap}
-use mathlib.Core.Logic.{_⊎_, inl, inr, ⊎-elim, _↔_}
+use mathlib.Core.Logic.{_↔_}
 use mathlib.Core.Bool.{Bool, So}
 use mathlib.Core.List.{List}
 use Prim.Native.Nat.{ℕ, suc, _+_, _≤_, _<_}
 use native.Mathlib.Omega.{arith}
 use native.Mathlib.Decide.{ℕ-discrete}
+use lib.ListN.{length}
 use Rattle.rules.specs.declared.Corner.{Corner}
 use Rattle.rules.specs.declared.Shape.{Shape}
 use Rattle.rules.specs.declared.Design.{Design}
-use Rattle.rules.specs.Tree.{Tree, leaf, cut, spans, position}
 use Rattle.rules.specs.declared.Edit.{Edit}
 use Rattle.rules.specs.declared.Edit.the-variants.{Change, Turn}
-use Rattle.rules.specs.Slot.{CornerOn, IsListOf, PastKept}
-use Rattle.rules.specs.Design.{LawfulDesign, tokenAt, nodeAt, nodes, SuitsOf, slotsOf, OwnLists}
-use Rattle.rules.specs.Edit.{Relists, Relisted, changed, changedNode, EditedLists}
-use Rattle.rules.specs.Service.{workOf}
+use Rattle.rules.specs.Tree.{Tree, leaf, cut, spans, position}
+use Rattle.rules.specs.Slot.{CornerOn}
+use Rattle.rules.specs.Design.{LawfulDesign, tokenAt, nodeAt, nodes, SuitsOf, slotsOf}
+use Rattle.rules.specs.Edit.{Relists, changed, changedNode, EditedLists}
 use Rattle.rules.proofs.Standing.{Node, is-leaf, is-cut, Children}
 use Rattle.rules.proofs.Nodes.{node-at}
 use Rattle.rules.proofs.Listing.{same-list}
 use Rattle.rules.proofs.Relisting.{relists-own}
 use Rattle.rules.proofs.Agreeing.{Agree, agree-back, paired-agree}
-use Rattle.slots.specs.Written.{NodeIs}
 use Rattle.slots.proofs.Writing.{node-other, past-nodes}
-use Rattle.listing.specs.Making.{Made}
+use Rattle.listing.specs.Making.{Listable, OnIts, IsListed, NodeMade, Made, onWay, ListedAfresh}
+
+-- bytes of the same length serve as well
+pub listable-kept : {d : Design} {lefts before after : List ℕ} → length after ≡ length before → Listable d lefts before → Listable d lefts after
+listable-kept e l = let b = l .bytes in record { lawful = l .lawful; lefts = l .lefts; bytes = omega arith }
 
 pub none-made : (d : Design) (marked : ℕ → Bool) (before : List ℕ) → Made d marked 0 before before
 none-made d marked before = record {
@@ -35,8 +38,8 @@ none-made d marked before = record {
 }
 
 -- a node that is not marked is passed over
-pub one-passed : (d : Design) (marked : ℕ → Bool) (t : ℕ) (before after : List ℕ) → (So (marked t) → ⊥) → Made d marked t before after → Made d marked (t + 1) before after
-one-passed d marked t before after o m = record {
+pub one-passed : {d : Design} {marked : ℕ → Bool} {t : ℕ} {before after : List ℕ} → (So (marked t) → ⊥) → Made d marked t before after → Made d marked (t + 1) before after
+one-passed {d} {marked} {t} o m = record {
   long = m .long;
   made = λ t' h s. m .made t' (below t' h s (ℕ-discrete t' t)) s;
   kept = λ t' h f. m .kept t' h (λ k s. f (omega arith) s);
@@ -47,10 +50,13 @@ one-passed d marked t before after o m = record {
     below t' h s (yes e) = absurd (o (rw e at s))
     below t' h s (no e) = omega arith
 
--- what a node is relisted from hangs on the slots of the nodes before it
-relists-same : (d : Design) → LawfulDesign d → (t : ℕ) → t < nodes d → (mid after : List ℕ)
-    → ((u : ℕ) → u < t → Agree (d .width .0) (d .height .0) (slotsOf d mid u) (slotsOf d after u))
-    → (c : Corner) → CornerOn (d .width .0) (d .height .0) c → (s : Shape)
+-- the slots of node t agree in two states of the work bytes
+abbrev SameSlots : Design → ℕ → List ℕ → List ℕ → Type 0
+SameSlots d t mid after = Agree (d .width .0) (d .height .0) (slotsOf d mid t) (slotsOf d after t)
+
+-- what a node is listed from hangs on the slots of the nodes before it
+relists-same : (d : Design) → LawfulDesign d → (t : ℕ) → t < nodes d → (mid after : List ℕ) → ((u : ℕ) → u < t → SameSlots d u mid after)
+    → (c : Corner) → OnIts d c → (s : Shape)
     → Relists (d .width .0) (d .height .0) (SuitsOf d) mid (nodeAt d t) c s ↔ Relists (d .width .0) (d .height .0) (SuitsOf d) after (nodeAt d t) c s
 relists-same d lawful t h mid after same c on s = go (nodeAt d t) (node-at d lawful t h)
   where
@@ -62,47 +68,47 @@ relists-same d lawful t h mid after same c on s = go (nodeAt d t) (node-at d law
         let x = same (position l) (omega arith) in let y = same (position r) (omega arith) in
         (paired-agree (d .width .0) (d .height .0) e x y c on s, paired-agree (d .width .0) (d .height .0) e (agree-back x) (agree-back y) c on s)
 
--- a marked node that is written as what it is relisted from
-pub one-made : (d : Design) (marked : ℕ → Bool) (t : ℕ) (f : Corner → ℕ → ℕ) (before mid after : List ℕ) → LawfulDesign d → t < nodes d → So (marked t)
-    → Made d marked t before mid → NodeIs (d .width .0) (d .height .0) t f mid after
-    → ((c : Corner) → CornerOn (d .width .0) (d .height .0) c → IsListOf (d .width .0) (f c) (Relists (d .width .0) (d .height .0) (SuitsOf d) mid (nodeAt d t) c))
-    → Made d marked (t + 1) before after
-one-made d marked t f before mid after lawful ht st m z l = record {
-  long = z .long ∙ m .long;
+-- a marked node that is listed
+pub one-made : {d : Design} {marked : ℕ → Bool} {t : ℕ} {before mid after : List ℕ} → LawfulDesign d → t < nodes d → So (marked t)
+    → Made d marked t before mid → NodeMade d t mid after → Made d marked (t + 1) before after
+one-made {d} {marked} {t} {before} {mid} {after} lawful ht st m z = record {
+  long = z .written .long ∙ m .long;
   made = λ t' h s. listed t' h s (ℕ-discrete t' t);
-  kept = λ t' h o c on j k. node-other (d .width .0) (d .height .0) t t' f mid after z (λ e. o (omega arith) (rw e at st)) c on j k ∙ m .kept t' h (λ g s. o (omega arith) s) c on j k;
-  past = λ i h. past-nodes (d .width .0) (d .height .0) t (nodes d) f mid after z ht i h ∙ m .past i h;
+  kept = λ t' h o c on j k. other t' (λ e. o (omega arith) (rw e at st)) c on j k ∙ m .kept t' h (λ g s. o (omega arith) s) c on j k;
+  past = λ i h. past-nodes (d .width .0) (d .height .0) t (nodes d) (z .slots) mid after (z .written) ht i h ∙ m .past i h;
 }
   where
-    same : (t' : ℕ) → t' ≤ t → (u : ℕ) → u < t' → Agree (d .width .0) (d .height .0) (slotsOf d mid u) (slotsOf d after u)
-    same t' b u h = record { at = λ c on j k. sym (node-other (d .width .0) (d .height .0) t u f mid after z (λ e. absurd (omega arith)) c on j k) }
+    other : (t' : ℕ) → (t ≡ t' → ⊥) → (c : Corner) → OnIts d c → (j : ℕ) → j < d .width .0 → slotsOf d after t' c j ≡ slotsOf d mid t' c j
+    other t' o = node-other (d .width .0) (d .height .0) t t' (z .slots) mid after (z .written) o
 
-    listed : (t' : ℕ) → t' < t + 1 → So (marked t') → Dec (t' ≡ t) → (c : Corner) → CornerOn (d .width .0) (d .height .0) c
-        → IsListOf (d .width .0) (slotsOf d after t' c) (Relists (d .width .0) (d .height .0) (SuitsOf d) after (nodeAt d t') c)
+    same : (t' : ℕ) → t' ≤ t → (u : ℕ) → u < t' → SameSlots d u mid after
+    same t' b u h = record { at = λ c on j k. sym (other u (λ e. absurd (omega arith)) c on j k) }
+
+    listed : (t' : ℕ) → t' < t + 1 → So (marked t') → Dec (t' ≡ t) → (c : Corner) → OnIts d c → IsListed d t' (slotsOf d after t' c) after c
     listed t' h s (yes e) c on =
-        rw e (same-list (d .width .0) (f c) (slotsOf d after t c) (λ j k. sym (z .inside c on j k)) (relists-same d lawful t ht mid after (same t (omega arith)) c on) (l c on))
+        rw e (same-list (d .width .0) (z .slots c) (slotsOf d after t c) (λ j k. sym (z .written .inside c on j k))
+        (relists-same d lawful t ht mid after (same t (omega arith)) c on) (z .listed c on))
     listed t' h s (no e) c on =
-        same-list (d .width .0) (slotsOf d mid t' c) (slotsOf d after t' c)
-        (λ j k. sym (node-other (d .width .0) (d .height .0) t t' f mid after z (λ q. e (sym q)) c on j k))
+        same-list (d .width .0) (slotsOf d mid t' c) (slotsOf d after t' c) (λ j k. sym (other t' (λ q. e (sym q)) c on j k))
         (relists-same d lawful t' (omega arith) mid after (same t' (omega arith)) c on) (m .made t' (omega arith) s c on)
 
+-- marks that agree on the nodes make the same pass
+pub same-marks : {d : Design} {marked marked' : ℕ → Bool} {before after : List ℕ} → ((t : ℕ) → t < nodes d → marked t ≡ marked' t)
+    → Made d marked (nodes d) before after → Made d marked' (nodes d) before after
+same-marks e m = record {
+  long = m .long;
+  made = λ t h s. m .made t h (rw (e t h) s);
+  kept = λ t h o. m .kept t h (λ k s. o k (rw (e t h) at s));
+  past = m .past;
+}
+
 -- all nodes listed: the design's full lists stand in work, and the bytes past them stay
-pub all-made : (d : Design) (marked : ℕ → Bool) (before after : List ℕ) → LawfulDesign d → ((t : ℕ) → t < nodes d → So (marked t)) → Made d marked (nodes d) before after
-    → PastKept (workOf d) before after × OwnLists d (slotsOf d after)
-all-made d marked before after lawful every m =
-    (record { length = m .long; past = m .past }, relists-own d lawful after (λ t h c on. m .made t h (every t h) c on))
+pub all-made : {d : Design} {marked : ℕ → Bool} {before after : List ℕ} → LawfulDesign d → ((t : ℕ) → t < nodes d → So (marked t)) → Made d marked (nodes d) before after
+    → ListedAfresh d before after
+all-made {after = after} lawful every m = (record { length = m .long; past = m .past }, relists-own _ lawful after (λ t h c on. m .made t h (every t h) c on))
 
 -- the way of an edit listed: the bytes that edit's rule asks for
-pub way-made : (d : Design) (e : Edit) (marked : ℕ → Bool) (before after : List ℕ)
-    → ((t : ℕ) → t < nodes d → marked t ≡ spans (nodeAt (changed d e) t) (changedNode d e)) → Made (changed d e) marked (nodes d) before after → EditedLists d e before after
+pub way-made : (d : Design) (e : Edit) {before after : List ℕ} → Made (changed d e) (onWay (changed d e) (changedNode d e)) (nodes d) before after → EditedLists d e before after
 unfolding changed
-way-made d (Change k n) marked before after way m = record {
-  way = λ t c h on s. m .made t h (rw (way t h) s) c on;
-  off = λ t c h on o. m .kept t h (λ _ s. o (rw (way t h) at s)) c on;
-  past = record { length = m .long; past = m .past };
-}
-way-made d (Turn p) marked before after way m = record {
-  way = λ t c h on s. m .made t h (rw (way t h) s) c on;
-  off = λ t c h on o. m .kept t h (λ _ s. o (rw (way t h) at s)) c on;
-  past = record { length = m .long; past = m .past };
-}
+way-made d (Change k n) m = record { way = λ t c h on s. m .made t h s c on; off = λ t c h on o. m .kept t h (λ _ s. o s) c on; past = record { length = m .long; past = m .past } }
+way-made d (Turn p) m = record { way = λ t c h on s. m .made t h s c on; off = λ t c h on o. m .kept t h (λ _ s. o s) c on; past = record { length = m .long; past = m .past } }

@@ -1,20 +1,52 @@
 -- What a pass over the nodes has made: of the first nodes the marked ones are listed, over the bytes as they then stand; the others stay.
 use mathlib.Core.Path.{_≡_}
-use mathlib.Core.Bool.{Bool, So}
+use mathlib.Core.Bool.{Bool, false, So}
 use mathlib.Core.List.{List}
 use Prim.Native.Nat.{ℕ, _≤_, _<_}
 use lib.ListN.{length, getD}
 use Rattle.rules.specs.declared.Corner.{Corner}
 use Rattle.rules.specs.declared.Design.{Design}
-use Rattle.rules.specs.Slot.{CornerOn, IsListOf}
-use Rattle.rules.specs.Design.{nodeAt, nodes, SuitsOf, slotsOf}
+use Rattle.rules.specs.Tree.{spans}
+use Rattle.rules.specs.Slot.{CornerOn, IsListOf, PastKept}
+use Rattle.rules.specs.Design.{nodeAt, nodes, SuitsOf, slotsOf, LawfulDesign, OwnLists}
 use Rattle.rules.specs.Edit.{Relists}
 use Rattle.rules.specs.Service.{workOf}
+use Rattle.slots.specs.Written.{NodeIs}
+use Rattle.trees.specs.Positions.{LeftChildren}
+
+-- a corner of the design's chip, and what node t is listed from there, over the bytes as they stand
+abbrev pub OnIts : Design → Corner → Type 0
+OnIts d c = CornerOn (d .width .0) (d .height .0) c
+
+abbrev pub IsListed : Design → ℕ → (ℕ → ℕ) → List ℕ → Corner → Type 0
+IsListed d t bytes work c = IsListOf (d .width .0) bytes (Relists (d .width .0) (d .height .0) (SuitsOf d) work (nodeAt d t) c)
+
+-- what a pass asks: a lawful design, its cuts' left children, and bytes enough
+pub record Listable (d : Design) (children work : List ℕ) : Type 0 where
+  pub lawful : LawfulDesign d
+  pub lefts : LeftChildren d children
+  pub bytes : workOf d ≤ length work
+
+-- node t is listed from what stood before, and no other byte has changed
+pub record NodeMade (d : Design) (t : ℕ) (before after : List ℕ) : Type 0 where
+  pub slots : Corner → ℕ → ℕ
+  pub written : NodeIs (d .width .0) (d .height .0) t slots before after
+  pub listed : (c : Corner) → OnIts d c → IsListed d t (slots c) before c
 
 pub record Made (d : Design) (marked : ℕ → Bool) (done : ℕ) (before after : List ℕ) : Type 0 where
   pub long : length after ≡ length before
-  pub made : (t : ℕ) → t < done → So (marked t) → (c : Corner) → CornerOn (d .width .0) (d .height .0) c
-      → IsListOf (d .width .0) (slotsOf d after t c) (Relists (d .width .0) (d .height .0) (SuitsOf d) after (nodeAt d t) c)
-  pub kept : (t : ℕ) → t < nodes d → (t < done → So (marked t) → ⊥) → (c : Corner) → CornerOn (d .width .0) (d .height .0) c
+  pub made : (t : ℕ) → t < done → So (marked t) → (c : Corner) → OnIts d c → IsListed d t (slotsOf d after t c) after c
+  pub kept : (t : ℕ) → t < nodes d → (t < done → So (marked t) → ⊥) → (c : Corner) → OnIts d c
       → (j : ℕ) → j < d .width .0 → slotsOf d after t c j ≡ slotsOf d before t c j
   pub past : (i : ℕ) → workOf d ≤ i → getD after i 0 ≡ getD before i 0
+
+-- the nodes that are marked in an array, and those on the way from a position up to the root
+abbrev pub isMarked : List Bool → ℕ → Bool
+isMarked marks t = getD marks t false
+
+abbrev pub onWay : Design → ℕ → ℕ → Bool
+onWay d at t = spans (nodeAt d t) at
+
+-- all nodes are listed: the design's full lists stand in work, and the bytes past them stay
+abbrev pub ListedAfresh : Design → List ℕ → List ℕ → Type 0
+ListedAfresh d before after = PastKept (workOf d) before after × OwnLists d (slotsOf d after)

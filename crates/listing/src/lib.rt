@@ -1,1 +1,68 @@
 // All nodes of a design, or those on the way of an edit, listed child before parent.
+use lawful::token_of;
+use rules::Design;
+use rules::MOST_TOKENS;
+use rules::Token;
+use slots::board_of;
+ghost use Prim.Native.Nat.{_≤_, _<_};
+ghost use lib.ListN.{length};
+ghost use Rattle.rules.specs.Design.{LawfulDesign, nodes};
+ghost use Rattle.rules.specs.Service.{workOf};
+ghost use Rattle.listing.specs.Making.{Listable, NodeMade, Made, isMarked, onWay, ListedAfresh};
+
+// Lists node t: a leaf from its need, a cut from its children's slots. Its right child stands just before it.
+fn list_node(work: &mut [u8], design: Design, lefts: [u8; MOST_TOKENS], t: usize)
+    requires { ⌜ Listable design lefts (now work) × (t < nodes design) ⌝ }
+    ensures { λ _. ⌜ NodeMade design t (now (work .entry)) (now (work .exit)) ⌝ }
+{
+    let board = board_of(design);
+    let token = token_of(design.tokens[t]);
+    match token {
+        Token::Cut(direction) => {
+            let left = lefts[t] as usize;
+            cuts::cut_node(work, board, direction, t, left, t - 1);
+        }
+        Token::Module(k) => {
+            let need = design.needs[k];
+            leaves::leaf_node(work, board, &design.kinds, need, t);
+        }
+        Token::Beyond => {}
+    }
+}
+
+// Lists the marked nodes, child before parent.
+fn list_marked(
+    work: &mut [u8],
+    design: Design,
+    lefts: [u8; MOST_TOKENS],
+    marks: [bool; MOST_TOKENS],
+)
+    requires { ⌜ Listable design lefts (now work) ⌝ }
+    ensures { λ _. ⌜ Made design (isMarked marks) (nodes design) (now (work .entry)) (now (work .exit)) ⌝ }
+{
+    let nodes = 2 * design.modules - 1;
+    for t in 0..nodes {
+        if marks[t] {
+            list_node(work, design, lefts, t);
+        }
+    }
+}
+
+// Lists all nodes.
+pub fn list_all(work: &mut [u8], design: Design)
+    requires { ⌜ LawfulDesign design × (workOf design ≤ length (now work)) ⌝ }
+    ensures { λ _. ⌜ ListedAfresh design (now (work .entry)) (now (work .exit)) ⌝ }
+{
+    let lefts = trees::left_children(design);
+    list_marked(work, design, lefts, [true; MOST_TOKENS]);
+}
+
+// Lists the nodes on the way from a position up to the root.
+pub fn list_way(work: &mut [u8], design: Design, at: usize)
+    requires { ⌜ LawfulDesign design × (workOf design ≤ length (now work)) ⌝ }
+    ensures { λ _. ⌜ Made design (onWay design at) (nodes design) (now (work .entry)) (now (work .exit)) ⌝ }
+{
+    let lefts = trees::left_children(design);
+    let marks = trees::way_up(design, lefts, at);
+    list_marked(work, design, lefts, marks);
+}

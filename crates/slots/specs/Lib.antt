@@ -1,2 +1,3 @@
--- How a slot, and all slots of a node, are written.
+-- The chip's size, and how a slot, and all slots of a node, are written.
+pub mod Size
 pub mod Written

@@ -1,16 +1,32 @@
 // Slots in the work bytes: where they start, and how writing one leaves all others.
 use rules::Columns;
 use rules::Corner;
+use rules::Design;
 use rules::Rows;
 ghost use mathlib.Core.Path.{_≡_};
 ghost use Prim.Native.Nat.{_≤_, _<_};
 ghost use Rattle.rules.specs.Slot.{slotStart, CornerOn};
+ghost use Rattle.slots.specs.Size.{boardOf};
 
 // The chip's size and its blocks' height; its columns' kinds are lent beside it.
 pub struct Board {
     pub width: Columns,
     pub height: Rows,
     pub block: Rows,
+}
+
+// The size of a design's chip.
+pub fn board_of(design: Design) -> Board
+    ensures { λ r. ⌜ r ≡ boardOf design ⌝ }
+{
+    let width = design.width;
+    let height = design.height;
+    let block = design.block;
+    Board {
+        width,
+        height,
+        block,
+    }
 }
 
 // Where the slot of node t at a corner starts.

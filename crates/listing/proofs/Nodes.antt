@@ -1,0 +1,107 @@
+-- One node's listing: a leaf's slots are the list of the shapes that suit its module's need, a cut's the list of its children's
+-- pairings; and the work bytes have room for both. Assumes nothing.
+use mathlib.Core.Path.{_≡_, refl}
+use mathlib.Core.List.{List}
+use Prim.Native.Nat.{ℕ, suc, _+_, _-_, _*_, _≤_, _<_}
+use native.Mathlib.Omega.{arith}
+use native.Mathlib.Nat.{mul-le-mul-right}
+use lib.ListN.{length, getD}
+use Rattle.rules.specs.declared.Design.{Design}
+use Rattle.rules.specs.declared.Direction.{Direction}
+use Rattle.rules.specs.declared.Token.the-variants.{Cut, Module, Beyond}
+use Rattle.rules.specs.Tree.{Tree, leaf, cut, position}
+use Rattle.rules.specs.Design.{mostColumns, needAt, tokenAt, nodeAt, nodes, slotsOf}
+use Rattle.rules.specs.Slot.{workNeeded}
+use Rattle.rules.specs.Test.{fits}
+use Rattle.rules.proofs.Standing.{Node, is-leaf, is-cut, Children, node-module}
+use Rattle.rules.proofs.Nodes.{node-at}
+use Rattle.rules.proofs.Limits.{limits}
+use Rattle.rules.proofs.Listing.{list-bytes}
+use Rattle.rules.proofs.Pairing.{pairings-bytes}
+use Rattle.rules.proofs.Suiting.{design-decides}
+use Rattle.slots.specs.declared.Board.{Board}
+use Rattle.slots.specs.Size.{boardOf}
+use Rattle.slots.specs.Written.{NodeIs}
+use Rattle.leaves.specs.Leaf.{leafBytes, NodeRoom}
+use Rattle.leaves.proofs.Holding.{chip-of}
+use Rattle.cuts.specs.Cut.{pairedSlot, Roomy, Cuttable}
+use Rattle.trees.proofs.Lefts.{left-child}
+use Rattle.listing.specs.Making.{Listable, NodeMade}
+
+-- the first nodes need no more bytes than all
+node-bytes : (W H n t : ℕ) {size : ℕ} → t < n → workNeeded W H n ≤ size → workNeeded W H (suc t) ≤ size
+node-bytes W H n t h k =
+    let a : suc t * H ≤ n * H = mul-le-mul-right H h in let b : suc t * H * W ≤ n * H * W = mul-le-mul-right W a in
+    let e : suc t * H * W * W ≤ n * H * W * W = mul-le-mul-right W b in omega arith
+
+module _ {d : Design} {lefts work : List ℕ} (L : Listable d lefts work) {t : ℕ} (h : t < nodes d) where
+  pub few-nodes : t < 31
+  few-nodes = let l = limits d (L .lawful) in omega arith
+
+  its-node : Node (d .modules) (tokenAt d) t (nodeAt d t)
+  its-node = node-at d (L .lawful) t h
+
+  -- a token of a lawful design is a module of its, or a cut of two nodes before it
+  pub module-of : {k : ℕ} → tokenAt d t ≡ Module k → k < 16
+  module-of {k} q = go its-node
+    where
+      go : {u : Tree} → Node (d .modules) (tokenAt d) t u → k < 16
+      go (is-leaf {k = j} e b) = let z : j ≡ k = cc in let l = limits d (L .lawful) in omega arith
+      go (is-cut e c) = let z : _≡_ {A = ℕ} 0 1 = cc in absurd (omega arith)
+
+  pub never-beyond : tokenAt d t ≡ Beyond → ⊥
+  never-beyond q = go its-node
+    where
+      go : {u : Tree} → Node (d .modules) (tokenAt d) t u → ⊥
+      go (is-leaf e b) = let z : _≡_ {A = ℕ} 0 1 = cc in omega arith
+      go (is-cut e c) = let z : _≡_ {A = ℕ} 0 1 = cc in omega arith
+
+  pub leaf-room : {b : Board} → b ≡ boardOf d → mostColumns ≤ length (d .kinds) → NodeRoom b t (d .kinds) work
+  leaf-room e k = rw e (let l = limits d (L .lawful) in record {
+    columns = l .width;
+    rows = l .height;
+    block = l .some-rows;
+    blocks = l .block;
+    kinds = omega arith;
+    node = omega arith;
+    slots = node-bytes (d .width .0) (d .height .0) (nodes d) t h (L .bytes);
+  })
+
+  pub leaf-made : {b : Board} {k : ℕ} {after : List ℕ} → b ≡ boardOf d → tokenAt d t ≡ Module k
+      → NodeIs (b .width .0) (b .height .0) t (leafBytes b (d .kinds) (needAt d k)) work after → NodeMade d t work after
+  unfolding fits
+  leaf-made {b} {k} {after} e q z = record {
+    slots = leafBytes (boardOf d) (d .kinds) (needAt d k);
+    written = rw e at z;
+    listed = λ c on. rw (node-module its-node q) (rw (chip-of d) at (list-bytes (design-decides d) (leaf t k) c));
+  }
+
+  module _ {k : Direction} (q : tokenAt d t ≡ Cut k) where
+    its-children : (l : Tree) × (r : Tree) × (nodeAt d t ≡ cut t k l r) × (getD lefts t 0 ≡ position l) × (t - 1 ≡ position r) × (position l < t) × (position r < t)
+    its-children = go refl its-node
+      where
+        go : {u : Tree} → nodeAt d t ≡ u → Node (d .modules) (tokenAt d) t u
+            → (l : Tree) × (r : Tree) × (nodeAt d t ≡ cut t k l r) × (getD lefts t 0 ≡ position l) × (t - 1 ≡ position r) × (position l < t) × (position r < t)
+        go p (is-leaf e b) = let z : _≡_ {A = ℕ} 0 1 = cc in absurd (omega arith)
+        go p (is-cut {d = k'} {l = l} {r = r} e c) =
+            let z : k' ≡ k = cc in let p' = rw z at p in let a = c .left-before in let b = c .right-before in
+            (l, r, p', left-child (L .lawful) (L .lefts) h p', omega arith, omega arith, omega arith)
+
+    pub cut-after : 1 ≤ t
+    cut-after = let (l, r, p, a, b, x, y) = its-children in omega arith
+
+    pub cut-room : {b : Board} → b ≡ boardOf d → Cuttable b t (getD lefts t 0) (t - 1) work
+    cut-room e = rw e (let l = limits d (L .lawful) in let (_, _, p, a, b, x, y) = its-children in record {
+      room = record { columns = l .width; rows = l .height; node = omega arith; bytes = node-bytes (d .width .0) (d .height .0) (nodes d) t h (L .bytes) };
+      first = omega arith;
+      second = omega arith;
+    })
+
+    pub cut-made : {b : Board} {after : List ℕ} → b ≡ boardOf d
+        → NodeIs (b .width .0) (b .height .0) t (pairedSlot k (b .width .0) (b .height .0) work (getD lefts t 0) (t - 1)) work after → NodeMade d t work after
+    unfolding pairedSlot
+    cut-made {b} {after} e z = let (l, r, p, a, b, x, y) = its-children in record {
+      slots = pairedSlot k (d .width .0) (d .height .0) work (getD lefts t 0) (t - 1);
+      written = rw e at z;
+      listed = λ c on. rw (p, a, b) (pairings-bytes (d .width .0) (d .height .0) k (slotsOf d work (position l)) (slotsOf d work (position r)) c);
+    }
