@@ -1,8 +1,45 @@
-// The planner's services. Each contract is one predicate of rules/specs/Service.antt, for all inputs.
+// The planner's services, each for all inputs: its contract is one predicate of rules/specs/Service.antt. The tests come in the order in
+// which the rules give the refusals.
+use checker::judge_rows;
+use editing::changed_node;
+use editing::names_place;
+use editing::with_change;
+use lawful::value_test;
+use listing::list_all;
+use listing::list_way;
 use rules::Design;
+use rules::Edit;
 use rules::Handed;
+use rules::Refusal;
+use rules::Reply;
 use rules::Written;
-ghost use Rattle.rules.specs.Service.{Reads, Writes};
+use slots::board_of;
+use stairs::all_stairs;
+ghost use mathlib.Core.Path.{_≡_};
+ghost use Prim.Native.Nat.{_≤_};
+ghost use lib.ListN.{length};
+ghost use Rattle.rules.specs.Design.{LawfulDesign, nodes, slotsOf};
+ghost use Rattle.rules.specs.Service.{workOf, Reads, Writes, Lists, Edits, Checks};
+ghost use Rattle.rules.specs.declared.Reply.the-variants.{Refused};
+ghost use Rattle.rules.specs.Test.{areStairs};
+
+// The work bytes that a lawful design's lists take.
+fn work_needed(design: Design) -> usize
+    requires { ⌜ LawfulDesign design ⌝ }
+    ensures { λ r. ⌜ r ≡ workOf design ⌝ }
+{
+    let width = design.width.0;
+    let nodes = 2 * design.modules - 1;
+    nodes * design.height.0 * width * width
+}
+
+// Every slot of every node is a stair.
+fn are_stairs(design: Design, work: &[u8]) -> bool
+    requires { ⌜ LawfulDesign design × (workOf design ≤ length (now work)) ⌝ }
+    ensures { λ r. ⌜ r ≡ areStairs (design .width .0) (design .height .0) (nodes design) (slotsOf design (now (work .entry))) ⌝ }
+{
+    all_stairs(work, board_of(design), 2 * design.modules - 1)
+}
 
 // Reads a design from bytes.
 pub fn read(bytes: &[u8]) -> Handed
@@ -16,4 +53,68 @@ pub fn write(design: Design, out: &mut [u8]) -> Written
     ensures { λ r. ⌜ Writes design (now (out .entry)) r (now (out .exit)) ⌝ }
 {
     writing::write_design(design, out)
+}
+
+// Fills the lists.
+pub fn list(design: Design, work: &mut [u8]) -> Reply
+    ensures { λ r. ⌜ Lists design (now (work .entry)) r (now (work .exit)) ⌝ }
+{
+    let reply = value_test(design);
+    if let Reply::Refused(e) = reply {
+        return Reply::Refused(e);
+    }
+    if work.len() < work_needed(design) {
+        return Reply::Refused(Refusal::TooShort);
+    }
+    list_all(work, design);
+    Reply::Done
+}
+
+// Changes one need or turns one cut, and brings the lists up to date.
+pub fn edit(design: Design, change: Edit, work: &mut [u8]) -> Handed
+    ensures { λ r. ⌜ Edits design change (now (work .entry)) r (now (work .exit)) ⌝ }
+{
+    let reply = value_test(design);
+    if let Reply::Refused(e) = reply {
+        return refused(design, e);
+    }
+    if !names_place(design, change) {
+        return refused(design, Refusal::NoSuchEdit);
+    }
+    if work.len() < work_needed(design) {
+        return refused(design, Refusal::TooShort);
+    }
+    if !are_stairs(design, work) {
+        return refused(design, Refusal::Unreliable);
+    }
+    let next = with_change(design, change);
+    list_way(work, next, changed_node(design, change));
+    Handed {
+        reply: Reply::Done,
+        design: next,
+    }
+}
+
+// An edit that is refused hands the design back unchanged.
+fn refused(design: Design, e: Refusal) -> Handed
+    ensures { λ r. ⌜ r ≡ record { reply = Refused e; design = design } ⌝ }
+{
+    Handed {
+        reply: Reply::Refused(e),
+        design,
+    }
+}
+
+// Judges a floorplan, without lists.
+pub fn check(design: Design, rows: &[u8]) -> Reply
+    ensures { λ r. ⌜ Checks design (now (rows .entry)) r ⌝ }
+{
+    let reply = value_test(design);
+    if let Reply::Refused(e) = reply {
+        return Reply::Refused(e);
+    }
+    if rows.len() < 4 * design.modules {
+        return Reply::Refused(Refusal::TooShort);
+    }
+    judge_rows(design, rows)
 }

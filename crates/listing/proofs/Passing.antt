@@ -108,7 +108,7 @@ pub all-made : {d : Design} {marked : ℕ → Bool} {before after : List ℕ} �
 all-made {after = after} lawful every m = (record { length = m .long; past = m .past }, relists-own _ lawful after (λ t h c on. m .made t h (every t h) c on))
 
 -- the way of an edit listed: the bytes that edit's rule asks for
-pub way-made : (d : Design) (e : Edit) {before after : List ℕ} → Made (changed d e) (onWay (changed d e) (changedNode d e)) (nodes d) before after → EditedLists d e before after
+pub way-made : (d : Design) (e : Edit) {before after : List ℕ} → Made (changed d e) (onWay (changed d e) (changedNode d e)) (nodes (changed d e)) before after → EditedLists d e before after
 unfolding changed
 way-made d (Change k n) m = record { way = λ t c h on s. m .made t h s c on; off = λ t c h on o. m .kept t h (λ _ s. o s) c on; past = record { length = m .long; past = m .past } }
 way-made d (Turn p) m = record { way = λ t c h on s. m .made t h s c on; off = λ t c h on o. m .kept t h (λ _ s. o s) c on; past = record { length = m .long; past = m .past } }

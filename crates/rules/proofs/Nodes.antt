@@ -9,6 +9,7 @@ use native.Mathlib.Omega.{arith}
 use native.Mathlib.Decide.{decLt}
 use Rattle.rules.specs.declared.Token.the-variants.{Module}
 use Rattle.rules.specs.declared.Design.{Design}
+use Rattle.rules.specs.declared.Refusal.{Refusal}
 use Rattle.rules.specs.declared.Refusal.the-variants.{BreaksLimits, NotOneThing}
 use Rattle.rules.specs.declared.Reply.{Reply}
 use Rattle.rules.specs.declared.Reply.the-variants.{Done, Refused}
@@ -48,6 +49,13 @@ lawful-iff d = (λ e. to (withinLimits d) refl e, λ t. rw (t .0, valueTest, t .
         → So (withinLimits d) × (standingOf d (nodes d) ≡ things (root d ∷ []))
     to true t e = (t, one (standingOf d (nodes d)) e)
     to false t e = let z : _≡_ {A = ℕ} 0 1 = cc in absurd (omega arith)
+
+-- a design that its tests refuse is not lawful, and is refused for one reason
+pub never-both : (d : Design) {e : Refusal} {A : Type 0} → valueTest d ≡ Refused e → LawfulDesign d → A
+never-both d u l = let z : _≡_ {A = ℕ} 0 1 = cc in absurd (omega arith)
+
+pub same-refusal : (d : Design) {e f : Refusal} → valueTest d ≡ Refused e → valueTest d ≡ Refused f → e ≡ f
+same-refusal d p q = cc
 
 -- the tree of a lawful design
 pub record LawfulTree (d : Design) : Type 0 where

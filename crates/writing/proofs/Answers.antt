@@ -14,21 +14,19 @@ use Rattle.rules.specs.declared.Written.the-variants as written
 use Rattle.rules.specs.Design.{valueTest, LawfulDesign}
 use Rattle.rules.specs.Bytes.{designBytes}
 use Rattle.rules.specs.Service.{Writes}
-
-never-both : (d : Design) (e : Refusal) {A : Type 0} → valueTest d ≡ Refused e → LawfulDesign d → A
-never-both d e u l = let z : _≡_ {A = ℕ} 0 1 = cc in absurd (omega arith)
+use Rattle.rules.proofs.Nodes.{never-both, same-refusal}
 
 module _ (d : Design) (before : List ℕ) where
   pub refuses : (e : Refusal) → valueTest d ≡ Refused e → Writes d before (written.Refused e) before
   refuses e u = record {
-    unlawful = λ f q. (let s : e ≡ f = cc in ap written.Refused s, refl);
-    short = λ l _. never-both d e u l;
-    done = λ l _. never-both d e u l;
+    unlawful = λ f q. (ap written.Refused (same-refusal d u q), refl);
+    short = λ l _. never-both d u l;
+    done = λ l _. never-both d u l;
   }
 
   pub too-short : LawfulDesign d → length before < length (designBytes d) → Writes d before (written.Refused TooShort) before
   too-short l h = record {
-    unlawful = λ e u. never-both d e u l;
+    unlawful = λ e u. never-both d u l;
     short = λ _ _. (refl, refl);
     done = λ _ k. absurd (omega arith);
   }
@@ -36,7 +34,7 @@ module _ (d : Design) (before : List ℕ) where
   pub writes : {count : ℕ} {after : List ℕ} → LawfulDesign d → length (designBytes d) ≤ length before → count ≡ length (designBytes d)
       → after ≡ designBytes d ++ drop (length (designBytes d)) before → Writes d before (Bytes count) after
   writes l h c e = record {
-    unlawful = λ e u. never-both d e u l;
+    unlawful = λ e u. never-both d u l;
     short = λ _ k. absurd (omega arith);
     done = λ _ _. (ap Bytes c, e);
   }

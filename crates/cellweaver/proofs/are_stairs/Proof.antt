@@ -1,0 +1,24 @@
+-- `cellweaver::are_stairs` meets its contract: a lawful design is within the stair test's limits. Assumes nothing.
+use native.Mathlib.Omega.{arith}
+use borrow.Author.Needs.{needs}
+use Rattle.cellweaver.proofs.Needed.{few, stairs-room}
+use Rattle.cellweaver.proofs.are_stairs.Statement.{statement}
+use Rattle.cellweaver.proofs.are_stairs.Tie as tie
+
+board-of-requires : tie.Need-board-of-requires
+board-of-requires c κs = search needs
+
+mul-all-stairs : tie.Need-mul-all-stairs
+mul-all-stairs c = let f = few _ (c .before .before .before .pre .0) in omega arith
+
+sub-all-stairs : tie.Need-sub-all-stairs
+sub-all-stairs c = few _ (c .before .before .before .pre .0) .some
+
+all-stairs-requires : tie.Need-all-stairs-requires
+all-stairs-requires c κs = let p = c .before .before .before .pre in rw (c .before .board-of .ensures) (stairs-room _ (p .0) (p .1))
+
+returns : tie.Need-returns
+returns c = rw (c .before .before .board-of .ensures) at (c .all-stairs .ensures)
+
+pub are-stairs-spec : {M : Type 1} → statement M
+are-stairs-spec = tie.close (tie.spec board-of-requires mul-all-stairs sub-all-stairs all-stairs-requires returns)
