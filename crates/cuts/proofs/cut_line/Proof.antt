@@ -25,7 +25,7 @@ here c =
     rw (c .corner-at .ensures) (corner-on (a .direction) (a .board) (a .on) (l .place) (c .before .before .before .before .before .before .before .before .pre .1) (omega (arith, l .inv .1, c .before .loop-test .taken)))
 
 fill-line-requires : tie.Need-fill-line-requires Inv-loop μ-loop
-fill-line-requires c κs = let p = c .before .before .before .pre in (roomy-child (c .before .before .before .args .right) (p .0 .room) (p .0 .second), p .1, p .2)
+fill-line-requires c κs = let p = c .before .before .before .pre in (roomy-child _ (p .0 .room) (omega (arith, p .0 .first, p .0 .second)), p .1, p .2)
 
 across-requires : tie.Need-across-requires Inv-loop μ-loop
 across-requires c κs = search needs
