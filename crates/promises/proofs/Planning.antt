@@ -60,17 +60,18 @@ pub record GoodPlan (d : Design) (s : Shape) (rows : List ℕ) : Type 0 where
   pub apart : ShareNoCell (root d) (fromRows rows)
   pub smallest : (q : Placement) → LawfulPlacement d q → area s ≤ area (box (root d) q)
 
+-- the rows of a lawful placement pass the checker, and share no cell
+pub rows-pass : (d : Design) → LawfulDesign d → (p : Placement) → LawfulPlacement d p → (rows rows' : List ℕ) → rowsOf d ≤ length rows
+    → rows' ≡ rowsOut (d .modules) p ++ drop (rowsOf d) rows → (verdict d rows' ≡ Done) × ShareNoCell (root d) (fromRows rows')
+rows-pass d l p f rows rows' h e =
+    let t = lawful-tree d l in
+    let same : (k : ℕ) → So (has (root d) k) → p k ≡ fromRows rows' k = λ k i. rw e (sym (rows-back (d .modules) p (drop (rowsOf d) rows) k (t .modules k .0 i))) in
+    let w = lawful-same (root d) p (fromRows rows') same f in
+    (passes-iff d l rows' .1 (rw e (simp (length-append, length-rows) (omega arith)), w), follow-apart (root d) (fromRows rows') (w .follows))
+
 module _ (d : Design) (before rows after rows' : List ℕ) (r : Planned) (x : Plans d before rows r after rows') (h : Enough d before rows) where
   rows-good : (s : Shape) (p : Placement) → rows' ≡ rowsOut (d .modules) p ++ drop (rowsOf d) rows → Floorplan d s p → GoodPlan d s rows'
-  rows-good s p e f =
-      let t = lawful-tree d (h .lawful) in
-      let same : (k : ℕ) → So (has (root d) k) → p k ≡ fromRows rows' k = λ k i. rw e (sym (rows-back (d .modules) p (drop (rowsOf d) rows) k (t .modules k .0 i))) in
-      let w = lawful-same (root d) p (fromRows rows') same (f .lawful) in
-      record {
-        passes = passes-iff d (h .lawful) rows' .1 (rw e (simp (length-append, length-rows) (omega arith)), w);
-        apart = follow-apart (root d) (fromRows rows') (w .follows);
-        smallest = f .smallest;
-      }
+  rows-good s p e f = let (a, b) = rows-pass d (h .lawful) p (f .lawful) rows rows' (h .places) e in record { passes = a; apart = b; smallest = f .smallest }
 
   -- plan answers with "no placement" and there is none, or with a box and a good plan
   pub plan-answers : ((r ≡ Refused NoPlacement) × (rows' ≡ rows) × ((p : Placement) → LawfulPlacement d p → ⊥)) ⊎ ((s : Shape) × (r ≡ Box s) × GoodPlan d s rows')

@@ -1,0 +1,100 @@
+-- A contract is said by its outcomes, and one of them always comes about: each test of a service passes or fails. Assumes nothing.
+use mathlib.Core.Path.{_≡_, refl}
+use mathlib.Core.Logic.{_⊎_, inl, inr, ⊎-elim}
+use mathlib.Core.Bool.{So}
+use mathlib.Core.List.{List}
+use Prim.Native.Nat.{ℕ, _≤_, _<_}
+use native.Mathlib.Omega.{arith}
+use native.Mathlib.Decide.{decLe}
+use lib.ListN.{length}
+use Rattle.rules.specs.declared.Corner.{Corner}
+use Rattle.rules.specs.declared.Shape.{Shape}
+use Rattle.rules.specs.declared.Design.{Design}
+use Rattle.rules.specs.declared.Edit.{Edit}
+use Rattle.rules.specs.declared.Refusal.{Refusal}
+use Rattle.rules.specs.declared.Reply.{Reply}
+use Rattle.rules.specs.declared.Reply.the-variants.{Done, Refused}
+use Rattle.rules.specs.Chip.{corner}
+use Rattle.rules.specs.Placement.{Placement}
+use Rattle.rules.specs.Slot.{Empty}
+use Rattle.rules.specs.Choice.{Chosen}
+use Rattle.rules.specs.Design.{valueTest, LawfulDesign, nodes, root, SuitsOf, slotsOf, AllStairs, rootSlot, GoesDown}
+use Rattle.rules.specs.Edit.{namesPlace}
+use Rattle.rules.specs.Check.{isSuited}
+use Rattle.rules.specs.Test.{goesDown}
+use Rattle.rules.specs.Service.{Enough, workOf, rowsOf}
+use Rattle.rules.proofs.Searching.{know}
+use Rattle.rules.proofs.Nodes.{lawful-tree}
+use Rattle.rules.proofs.Choosing.{chooses}
+use Rattle.rules.proofs.Descending.{laid-down, down-laid}
+use Rattle.rules.proofs.Floorplans.{suited-decides}
+use Rattle.rules.proofs.Stairs.{stairs-or-not}
+
+-- write, list, plan, place and check: the design's own tests, then the room lent
+pub data Lent (d : Design) (Short Room : Type 0) : Type 0 where
+  unlawful : (e : Refusal) → valueTest d ≡ Refused e → Lent d Short Room
+  short : LawfulDesign d → Short → Lent d Short Room
+  enough : LawfulDesign d → Room → Lent d Short Room
+
+tests-first : (d : Design) {Short Room : Type 0} → (LawfulDesign d → Short ⊎ Room) → Lent d Short Room
+tests-first d {Short} {Room} f = go (valueTest d) refl
+  where
+    go : (r : Reply) → valueTest d ≡ r → Lent d Short Room
+    go Done q = ⊎-elim (short q) (enough q) (f q)
+    go (Refused e) q = unlawful e q
+
+-- one buffer of n bytes
+shorter : (n m : ℕ) → (m < n) ⊎ (n ≤ m)
+shorter n m = go (decLe n m)
+  where
+    go : Dec (n ≤ m) → (m < n) ⊎ (n ≤ m)
+    go (yes h) = inr h
+    go (no h) = inl (omega arith)
+
+pub one-lent : (d : Design) (n : ℕ) (lent : List ℕ) → Lent d (length lent < n) (n ≤ length lent)
+one-lent d n lent = tests-first d (λ _. shorter n (length lent))
+
+-- work and rows
+pub two-lent : (d : Design) (work rows : List ℕ) → Lent d ((length work < workOf d) ⊎ (length rows < rowsOf d)) (Enough d work rows)
+two-lent d work rows = tests-first d λ l. ⊎-elim (λ h. inl (inl h))
+    (λ h. ⊎-elim (λ k. inl (inr k)) (λ k. inr (record { lawful = l; bytes = h; places = k })) (shorter (rowsOf d) (length rows)))
+    (shorter (workOf d) (length work))
+
+-- place, with enough room: over whatever stands in work
+pub data Placing (d : Design) (slots : ℕ → Corner → ℕ → ℕ) : Type 0 where
+  no-stairs : (AllStairs d slots → ⊥) → Placing d slots
+  empty : AllStairs d slots → Empty (d .width .0) (rootSlot d slots) → Placing d slots
+  lost : AllStairs d slots → (s : Shape) → Chosen (d .width .0) (rootSlot d slots) s → ((p : Placement) → GoesDown d slots s p → ⊥) → Placing d slots
+  placed : AllStairs d slots → (s : Shape) (p : Placement) → Chosen (d .width .0) (rootSlot d slots) s → GoesDown d slots s p → Placing d slots
+
+-- from a shape of the root one goes down, or not
+goes-or-not : (d : Design) → LawfulDesign d → (slots : ℕ → Corner → ℕ → ℕ) (s : Shape) → ((p : Placement) × GoesDown d slots s p) ⊎ ((p : Placement) → GoesDown d slots s p → ⊥)
+goes-or-not d l slots s =
+    let W = d .width .0 in let H = d .height .0 in
+    ⊎-elim (λ t. inl (_, laid-down W H (SuitsOf d) slots (isSuited d) (suited-decides d) (root d) (lawful-tree d l .once) (corner 0 0) s t))
+    (λ f. inr (λ p z. f (down-laid W H (SuitsOf d) slots (isSuited d) (suited-decides d) (root d) (lawful-tree d l .once) (corner 0 0) s p z .0)))
+    (know (goesDown W H (isSuited d) slots (root d) (corner 0 0) s))
+
+pub placing : (d : Design) → LawfulDesign d → (slots : ℕ → Corner → ℕ → ℕ) → Placing d slots
+placing d l slots = ⊎-elim
+    (λ st. ⊎-elim (λ z. empty st (z .1))
+    (λ ch. ⊎-elim (λ z. placed st _ (z .0) ch (z .1)) (λ f. lost st _ ch f) (goes-or-not d l slots _)) (chooses (d .width .0) (rootSlot d slots)))
+    no-stairs (stairs-or-not (d .width .0) (d .height .0) (nodes d) slots)
+
+-- edit
+pub data Editing (d : Design) (e : Edit) (before : List ℕ) : Type 0 where
+  unlawful-design : (f : Refusal) → valueTest d ≡ Refused f → Editing d e before
+  unnamed : LawfulDesign d → (So (namesPlace d e) → ⊥) → Editing d e before
+  short-work : LawfulDesign d → So (namesPlace d e) → length before < workOf d → Editing d e before
+  stranger : LawfulDesign d → So (namesPlace d e) → workOf d ≤ length before → (AllStairs d (slotsOf d before) → ⊥) → Editing d e before
+  granted : LawfulDesign d → So (namesPlace d e) → workOf d ≤ length before → AllStairs d (slotsOf d before) → Editing d e before
+
+pub editing : (d : Design) (e : Edit) (before : List ℕ) → Editing d e before
+editing d e before = go (one-lent d (workOf d) before) (know (namesPlace d e))
+  where
+    go : Lent d (length before < workOf d) (workOf d ≤ length before) → So (namesPlace d e) ⊎ (So (namesPlace d e) → ⊥) → Editing d e before
+    go (unlawful f t) _ = unlawful-design f t
+    go (short l h) (inl n) = short-work l n h
+    go (short l h) (inr n) = unnamed l n
+    go (enough l h) (inl n) = ⊎-elim (granted l n h) (stranger l n h) (stairs-or-not (d .width .0) (d .height .0) (nodes d) (slotsOf d before))
+    go (enough l h) (inr n) = unnamed l n
