@@ -2,7 +2,8 @@
 pub mod Refusals
 pub mod Cases
 pub mod Unique
-pub mod Answering
 pub mod Planning
+pub mod Answering
 pub mod Editing
 pub mod Copying
+pub mod Refuting
