@@ -76,6 +76,13 @@ module _ {d : Design} {lefts work : List ℕ} (L : Listable d lefts work) {t : �
     listed = λ c on. rw (node-module its-node q) (rw (chip-of d) at (list-bytes (design-decides d) (leaf t k) c));
   }
 
+  pub cut-room : {b : Board} {l r : ℕ} → b ≡ boardOf d → l < t → r < t → Cuttable b t l r work
+  cut-room e x y = rw e (let l = limits d (L .lawful) in record {
+    room = record { columns = l .width; rows = l .height; node = omega arith; bytes = node-bytes (d .width .0) (d .height .0) (nodes d) t h (L .bytes) };
+    first = x;
+    second = y;
+  })
+
   module _ {k : Direction} (q : tokenAt d t ≡ Cut k) where
     its-children : (l : Tree) × (r : Tree) × (nodeAt d t ≡ cut t k l r) × (getD lefts t 0 ≡ position l) × (t - 1 ≡ position r) × (position l < t) × (position r < t)
     its-children = go refl its-node
@@ -87,15 +94,11 @@ module _ {d : Design} {lefts work : List ℕ} (L : Listable d lefts work) {t : �
             let z : k' ≡ k = cc in let p' = rw z at p in let a = c .left-before in let b = c .right-before in
             (l, r, p', left-child (L .lawful) (L .lefts) h p', omega arith, omega arith, omega arith)
 
+    pub left-before : getD lefts t 0 < t
+    left-before = let (l, r, p, a, b, x, y) = its-children in omega arith
+
     pub cut-after : 1 ≤ t
     cut-after = let (l, r, p, a, b, x, y) = its-children in omega arith
-
-    pub cut-room : {b : Board} → b ≡ boardOf d → Cuttable b t (getD lefts t 0) (t - 1) work
-    cut-room e = rw e (let l = limits d (L .lawful) in let (_, _, p, a, b, x, y) = its-children in record {
-      room = record { columns = l .width; rows = l .height; node = omega arith; bytes = node-bytes (d .width .0) (d .height .0) (nodes d) t h (L .bytes) };
-      first = omega arith;
-      second = omega arith;
-    })
 
     pub cut-made : {b : Board} {after : List ℕ} → b ≡ boardOf d
         → NodeIs (b .width .0) (b .height .0) t (pairedSlot k (b .width .0) (b .height .0) work (getD lefts t 0) (t - 1)) work after → NodeMade d t work after

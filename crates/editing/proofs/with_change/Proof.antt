@@ -22,7 +22,7 @@ element-copy-out-next : tie.Need-element-copy-out-next
 element-copy-out-next c = let p = c .before .before .before .pre in turned-cut _ (p .0) (p .1) (c .before .edit2 .given .1) .0
 
 sub-next : tie.Need-sub-next
-sub-next c = let p = c .before .before .before .before .pre in turned-cut _ (p .0) (p .1) (c .before .before .edit2 .given .1) .1
+sub-next c = let p = c .before .before .before .before .pre in omega (arith, turned-cut _ (p .0) (p .1) (c .before .before .edit2 .given .1) .1)
 
 element-write-next : tie.Need-element-write-next
 element-write-next c = let p = c .before .before .before .before .pre in turned-cut _ (p .0) (p .1) (c .before .before .edit2 .given .1) .0
