@@ -23,7 +23,7 @@ use Rattle.rules.proofs.Nodes.{lawful-tree, node-part}
 use Rattle.checker.specs.declared.Extent.{Extent}
 use Rattle.checker.specs.declared.Pass.{Pass}
 use Rattle.checker.specs.Cuts.{nowhere, atStart, afterToken, Ready}
-use Rattle.checker.proofs.Limits.{limits}
+use Rattle.rules.proofs.Limits.{limits}
 use Rattle.checker.proofs.Extents.{treeExtent, leaf-extent, cut-extent, kept-by-extents}
 
 -- the things that stand, the last first, and the last of them

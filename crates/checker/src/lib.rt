@@ -1,10 +1,11 @@
 // The checker's judgement of a floorplan: from the design and the rows alone, with no lists.
+use holding::suits;
+use lawful::token_of;
 use rules::Columns;
 use rules::Corner;
 use rules::Design;
 use rules::Direction;
 use rules::MOST_TOKENS;
-use rules::Need;
 use rules::Rectangle;
 use rules::Refusal;
 use rules::Reply;
@@ -14,11 +15,9 @@ use rules::Token;
 ghost use mathlib.Core.Path.{_≡_};
 ghost use Prim.Native.Nat.{_+_, _*_, _-_, _≤_, _<_, min, max};
 ghost use lib.ListN.{length};
-ghost use Rattle.rules.specs.Chip.{OnChip, holds};
-ghost use Rattle.rules.specs.Tree.{tokenOf};
-ghost use Rattle.rules.specs.Design.{mostColumns, mostRows, mostModules, chipOf, LawfulDesign};
-ghost use Rattle.rules.specs.Check.{fromRows, isOnChip, isAtMost, judgedCuts, judgedRows};
-ghost use Rattle.checker.specs.Modules.{Limits, Bytes, EachUpTo, blocksBetween, withColumn, judgedModule};
+ghost use Rattle.rules.specs.Design.{mostModules, LawfulDesign};
+ghost use Rattle.rules.specs.Check.{fromRows, isOnChip, judgedCuts, judgedRows};
+ghost use Rattle.checker.specs.Modules.{Bytes, judgedModule};
 ghost use Rattle.checker.specs.Cuts.{extentOf, together, endsBefore, atStart, afterModule, afterCut, afterToken, Ready};
 
 // The sides of what lies below a node: the least left and bottom, the greatest right and top of its modules' rectangles.
@@ -68,107 +67,19 @@ fn is_on_chip(width: Columns, height: Rows, r: Rectangle) -> bool
     r.corner.y.0 + r.shape.h.0 <= height.0
 }
 
-// How many blocks stand whole in the rows from low to before far, where each is so many rows high.
-fn blocks_between(block: Rows, low: Rows, far: Rows) -> usize
-    requires { ⌜ (0 < block .0) × (block .0 ≤ mostRows) × (low .0 ≤ mostRows) × (far .0 ≤ mostRows) ⌝ }
-    ensures { λ r. ⌜ (r ≡ blocksBetween (block .0) (low .0) (far .0)) × (r ≤ mostRows) ⌝ }
-{
-    let high = block.0;
-    let first = (low.0 + (high - 1)) / high;
-    let end = far.0 / high;
-    if first <= end { end - first } else { 0 }
-}
-
-// What is held with one column more, which adds what it holds of its own kind.
-fn with_column(held: Need, kind: u8, column: Need) -> Need
-    requires { ⌜ EachUpTo (mostColumns * mostRows) held × EachUpTo mostRows column ⌝ }
-    ensures { λ r. ⌜ r ≡ withColumn held kind column ⌝ }
-{
-    let clbs = held.clbs;
-    let rams = held.rams;
-    let multipliers = held.multipliers;
-    match kind {
-        0 => Need {
-            clbs: clbs + column.clbs,
-            rams,
-            multipliers,
-        },
-        1 => Need {
-            clbs,
-            rams: rams + column.rams,
-            multipliers,
-        },
-        2 => Need {
-            clbs,
-            rams,
-            multipliers: multipliers + column.multipliers,
-        },
-        _ => held,
-    }
-}
-
-// What a rectangle on the chip holds of each kind, counted column by column.
-fn held(d: Design, r: Rectangle) -> Need
-    requires { ⌜ Limits d × OnChip (d .width .0) (d .height .0) r ⌝ }
-    ensures { λ n. ⌜ n ≡ holds (chipOf d) r ⌝ }
-{
-    let blocks = blocks_between(d.block, r.corner.y, Rows(r.corner.y.0 + r.shape.h.0));
-    let column = Need {
-        clbs: r.shape.h.0,
-        rams: blocks,
-        multipliers: blocks,
-    };
-    let left = r.corner.x.0;
-    let right = left + r.shape.w.0;
-    let mut held = Need {
-        clbs: 0,
-        rams: 0,
-        multipliers: 0,
-    };
-    for x in left..right {
-        held = with_column(held, d.kinds[x], column);
-    }
-    held
-}
-
-// What is held is at least the need, of each kind.
-fn is_at_most(need: Need, held: Need) -> bool
-    ensures { λ r. ⌜ r ≡ isAtMost need held ⌝ }
-{
-    if held.clbs < need.clbs {
-        return false;
-    }
-    if held.rams < need.rams {
-        return false;
-    }
-    need.multipliers <= held.multipliers
-}
-
 // The reply to module k alone: off the chip before short of its need.
 fn judge_module(d: Design, rows: &[u8], k: usize) -> Reply
-    requires { ⌜ Limits d × (k < d .modules) × (4 * d .modules ≤ length (now rows)) ⌝ }
+    requires { ⌜ LawfulDesign d × (k < d .modules) × (4 * d .modules ≤ length (now rows)) ⌝ }
     ensures { λ r. ⌜ r ≡ judgedModule d (fromRows (now (rows .entry))) k ⌝ }
 {
     let r = rectangle_at(rows, k);
     if !is_on_chip(d.width, d.height, r) {
         return Reply::Refused(Refusal::OffTheChip(k));
     }
-    if !is_at_most(d.needs[k], held(d, r)) {
+    if !suits(d, k, r) {
         return Reply::Refused(Refusal::ShortOfNeed(k));
     }
     Reply::Done
-}
-
-// What a token's byte says.
-fn token_of(byte: u8) -> Token
-    ensures { λ r. ⌜ r ≡ tokenOf mostModules byte ⌝ }
-{
-    match byte {
-        0 => Token::Cut(Direction::Vertical),
-        1 => Token::Cut(Direction::Horizontal),
-        2..=17 => Token::Module((byte - 2) as usize),
-        _ => Token::Beyond,
-    }
 }
 
 // The lesser of two left sides.
@@ -302,7 +213,7 @@ fn at_start() -> Pass
 
 // The reply to the cuts, in token order.
 fn judge_cuts(d: Design, rows: &[u8]) -> Reply
-    requires { ⌜ LawfulDesign d × Limits d × (4 * d .modules ≤ length (now rows)) ⌝ }
+    requires { ⌜ LawfulDesign d × (4 * d .modules ≤ length (now rows)) ⌝ }
     ensures { λ r. ⌜ r ≡ judgedCuts d (fromRows (now (rows .entry))) ⌝ }
 {
     let nodes = 2 * d.modules - 1;

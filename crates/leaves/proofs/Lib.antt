@@ -1,6 +1,5 @@
 -- Laws of a leaf's list.
 pub mod Limiting
-pub mod Holding
 pub mod Counting
 pub mod Lowering
 pub mod Trying

@@ -2,7 +2,7 @@
 use mathlib.Core.Path.{_≡_}
 use mathlib.Core.Bool.{Bool, _&&_, _||_, not, So}
 use mathlib.Core.List.{List}
-use Prim.Native.Nat.{ℕ, zero, suc, _+_, _-_, _*_, _/_, _≤_, _<_}
+use Prim.Native.Nat.{ℕ, suc, _+_, _-_, _*_, _≤_, _<_}
 use mir.Val.{boolByte}
 use lib.Dec.{leb, ltb, eqb}
 use lib.ListN.{length, getD}
@@ -11,7 +11,7 @@ use Rattle.rules.specs.declared.Need.{Need}
 use Rattle.rules.specs.Chip.{Chip, columnOf}
 use Rattle.rules.specs.Design.{mostColumns, mostRows}
 use Rattle.rules.specs.Slot.{slotStart, CornerOn}
-use Rattle.rules.specs.Test.{Test, onlyIf, lowest, listByte, suitsRoom}
+use Rattle.rules.specs.Test.{Test, onlyIf, blocksOf, lowest, listByte, suitsRoom}
 use Rattle.slots.specs.declared.Board.{Board}
 use Rattle.leaves.specs.declared.ByKind.{ByKind}
 
@@ -57,15 +57,6 @@ inRow y x c = eqb (c .y .0) y && ltb (c .x .0) x
 
 abbrev pub below : ℕ → Corner → Bool
 below y c = ltb (c .y .0) y
-
--- how many blocks of B rows stand whole between two rows: those that end at or below the upper one, less those that start below the lower one
-unfoldable pub wholeBlocks : ℕ → ℕ → ℕ → ℕ
-wholeBlocks B c d = d / B - (c + (B - 1)) / B
-
--- what a column of kind k holds between two rows
-unfoldable pub blocksOf : ℕ → ℕ → ℕ → ℕ → ℕ
-blocksOf zero B c d = d - c
-blocksOf (suc k) B c d = wholeBlocks B c d
 
 -- so many columns of each kind hold the need between two rows
 unfoldable pub suitsIn : ByKind → Need → ℕ → ℕ → ℕ → Bool

@@ -1,4 +1,5 @@
 // A leaf's slot at one corner, listed from its need.
+use holding::blocks_between;
 use rules::Columns;
 use rules::Corner;
 use rules::MOST_COLUMNS;
@@ -10,23 +11,13 @@ ghost use Prim.Native.Nat.{_-_, _*_, _≤_, _<_};
 ghost use lib.Dec.{leb};
 ghost use Rattle.rules.specs.Design.{mostColumns, mostRows};
 ghost use Rattle.slots.specs.Written.{SlotIs, PartIs, NodeIs};
-ghost use Rattle.leaves.specs.Leaf.{leafBytes, CornerRoom, LeafRoom, NodeRoom, inRow, wholeBlocks, suitsIn, Within, StopsAt, oneMore, heightTo, Trials, listedOf};
+ghost use Rattle.leaves.specs.Leaf.{leafBytes, CornerRoom, LeafRoom, NodeRoom, inRow, suitsIn, Within, StopsAt, oneMore, heightTo, Trials, listedOf};
 
 // How many columns of each kind lie side by side.
 struct ByKind {
     clbs: Columns,
     rams: Columns,
     multipliers: Columns,
-}
-
-// How many blocks stand whole between two rows.
-fn whole_blocks(block: Rows, low: Rows, far: Rows) -> usize
-    requires { ⌜ (1 ≤ block .0) × (block .0 ≤ mostRows) × (low .0 ≤ far .0) × (far .0 ≤ mostRows) ⌝ }
-    ensures { λ r. ⌜ (r ≡ wholeBlocks (block .0) (low .0) (far .0)) × (r ≤ mostRows) ⌝ }
-{
-    let first = (low.0 + (block.0 - 1)) / block.0;
-    let past = far.0 / block.0;
-    if first <= past { past - first } else { 0 }
 }
 
 // So many columns with so many blocks in each hold what is needed of their kind.
@@ -45,7 +36,7 @@ fn suits_in(columns: ByKind, need: Need, block: Rows, low: Rows, far: Rows) -> b
     if !enough(columns.clbs, far.0 - low.0, need.clbs) {
         return false;
     }
-    let blocks = whole_blocks(block, low, far);
+    let blocks = blocks_between(block, low, far);
     if !enough(columns.rams, blocks, need.rams) {
         return false;
     }

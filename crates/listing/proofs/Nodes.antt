@@ -23,7 +23,7 @@ use Rattle.slots.specs.declared.Board.{Board}
 use Rattle.slots.specs.Size.{boardOf}
 use Rattle.slots.specs.Written.{NodeIs}
 use Rattle.leaves.specs.Leaf.{leafBytes, NodeRoom}
-use Rattle.leaves.proofs.Holding.{chip-of}
+use Rattle.leaves.proofs.Counting.{chip-of}
 use Rattle.cuts.specs.Cut.{pairedSlot, Roomy, Cuttable}
 use Rattle.trees.proofs.Lefts.{left-child}
 use Rattle.listing.specs.Making.{Listable, NodeMade}

@@ -20,7 +20,7 @@ use Rattle.numbers.specs.declared.NumberReply.the-variants.{Number}
 use Rattle.numbers.specs.declared.NumberReply.the-variants as number
 use Rattle.numbers.specs.Replies.{replyOf}
 use Rattle.numbers.proofs.Answers.{was-taken, was-refused}
-use Rattle.lawful.proofs.Testing.{range-iff}
+use Rattle.rules.proofs.Testing.{range-iff}
 use Rattle.reading.specs.declared.Stage.{Stage}
 use Rattle.reading.specs.declared.OneNeed.{OneNeed}
 use Rattle.reading.specs.Stages.{stage, oneNeed}

@@ -2,14 +2,14 @@
 -- or there is no lawful placement; over any stairs what goes down is lawful. Assumes nothing.
 use mathlib.Core.Path.{_≡_}
 use mathlib.Core.Logic.{_⊎_, inl, inr, ⊎-elim, _↔_}
-use mathlib.Core.Bool.{So}
-use Prim.Native.Nat.{ℕ, _+_, _-_, _≤_}
+use mathlib.Core.Bool.{Bool, So}
+use Prim.Native.Nat.{ℕ, _+_, _-_, _≤_, _<_}
 use native.Mathlib.Omega.{arith}
 use Rattle.rules.specs.declared.Corner.{Corner}
 use Rattle.rules.specs.declared.Shape.{Shape}
 use Rattle.rules.specs.declared.Rectangle.{Rectangle}
 use Rattle.rules.specs.declared.Design.{Design}
-use Rattle.rules.specs.Chip.{corner, holds}
+use Rattle.rules.specs.Chip.{corner, OnChip, holds}
 use Rattle.rules.specs.Tree.{position}
 use Rattle.rules.specs.Placement.{Placement, ShareNoCell, box, area}
 use Rattle.rules.specs.Shape.{Listed}
@@ -17,7 +17,7 @@ use Rattle.rules.specs.Slot.{Empty, Stores, CornerOn, Stair, ListsAt}
 use Rattle.rules.specs.Choice.{Chosen}
 use Rattle.rules.specs.Design.{LawfulDesign, LawfulPlacement, AllStairs, OwnLists, rootSlot, GoesDown, SuitsOf, chipOf, needAt, nodeAt, nodes, root, inRange, withinLimits}
 use Rattle.rules.specs.Check.{isSuited}
-use Rattle.rules.specs.Test.{laid}
+use Rattle.rules.specs.Test.{goesDown, laid}
 use Rattle.rules.proofs.Searching.{test-iffs}
 use Rattle.rules.proofs.Nodes.{lawful-tree, root-position, node-at, by-nodes}
 use Rattle.rules.proofs.Standing.{whole, node-position}
@@ -65,6 +65,17 @@ module _ (d : Design) (lawful : LawfulDesign d) (slots : ℕ → Corner → ℕ 
       → GoesDown d slots s p → PlacedIn (d .width .0) (d .height .0) (SuitsOf d) (root d) p 0 0 (0 + s .w .0) (0 + s .h .0)
   down-lawful st s p z down =
       down-placed slots (root d) (corner 0 0) s p (stairs-every st) (corner-zero d lawful) (rw (root-at (corner 0 0)) at z) down
+
+  -- the computed rectangles are on the chip, whatever test the leaves pass
+  pub laid-on-chip : AllStairs d slots → (suits : ℕ → Rectangle → Bool) (s : Shape) → Stores (d .width .0) (rootSlot d slots) s
+      → So (goesDown (d .width .0) (d .height .0) suits slots (root d) (corner 0 0) s)
+      → (k : ℕ) → k < d .modules → OnChip (d .width .0) (d .height .0) (laid (d .width .0) (d .height .0) slots (root d) (corner 0 0) s k)
+  laid-on-chip st suits s z g k h =
+      let W = d .width .0 in let H = d .height .0 in let T = lawful-tree d lawful in
+      let S : ℕ → Rectangle → Type 0 = λ j r. So (suits j r) in
+      let down = laid-down W H S slots suits (λ j r. (λ t. t, λ t. t)) (root d) (T .once) (corner 0 0) s g in
+      down-placed {S = S} slots (root d) (corner 0 0) s (laid W H slots (root d) (corner 0 0) s) (stairs-every st) (corner-zero d lawful)
+      (rw (root-at (corner 0 0)) at z) down .lawful .onChip k (T .modules k .1 h)
 
   module _ (own : OwnLists d slots) where
     root-listed : (s : Shape) → Stores (d .width .0) (rootSlot d slots) s ↔ Listed (d .width .0) (d .height .0) (SuitsOf d) (root d) (corner 0 0) s

@@ -1,8 +1,10 @@
 -- What follows from the rules. A reader who trusts the checker need not read further than the statements.
 pub mod Searching
+pub mod Testing
 pub mod Standing
 pub mod Nodes
 pub mod Limits
+pub mod Blocks
 pub mod Rooms
 pub mod Fitting
 pub mod Suiting

@@ -1,7 +1,7 @@
 -- Tests that compute, beside the rules that they decide. None of them has to be believed: proofs/ shows of each which rule it
 -- decides. A room is given by its four sides, left, bottom, right and top; its test is a Bool.
 use mathlib.Core.Bool.{Bool, true, false, _&&_, _||_}
-use Prim.Native.Nat.{ℕ, zero, suc, _+_, _-_, _*_}
+use Prim.Native.Nat.{ℕ, zero, suc, _+_, _-_, _*_, _/_}
 use lib.Dec.{leb, ltb, eqb}
 use Rattle.rules.specs.declared.Direction.{Direction}
 use Rattle.rules.specs.declared.Direction.the-variants.{Vertical, Horizontal}
@@ -38,6 +38,15 @@ across Horizontal m n = n
 
 abbrev pub room : ℕ → ℕ → ℕ → ℕ → Rectangle
 room a c b d = rectangle a c (b - a) (d - c)
+
+-- by division: how many blocks of B rows, the first at row 0, stand whole in the rows from low to before far; and how many blocks a
+-- column of kind k holds there
+unfoldable pub blocksBetween : ℕ → ℕ → ℕ → ℕ
+blocksBetween B low far = far / B - (low + (B - 1)) / B
+
+unfoldable pub blocksOf : ℕ → ℕ → ℕ → ℕ → ℕ
+blocksOf zero B low far = far - low
+blocksOf (suc k) B low far = blocksBetween B low far
 
 -- the room is on the chip and suits the need
 unfoldable pub suitsRoom : Chip → Need → Test

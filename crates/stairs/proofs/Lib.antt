@@ -1,4 +1,3 @@
 -- Laws of the stair test.
-pub mod Testing
 pub mod Walking
 pub mod Reaching

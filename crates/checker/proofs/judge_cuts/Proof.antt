@@ -8,6 +8,7 @@ use borrow.Author.Tests.{not-true, not-false}
 use borrow.Author.Needs.{needs}
 use Rattle.rules.specs.Design.{nodes}
 use Rattle.rules.specs.Check.{fromRows}
+use Rattle.rules.proofs.Limits.{limits}
 use Rattle.checker.proofs.FirstFault.{Searched, notKept, none-searched, cut-kept, cut-refused, cuts-kept}
 use Rattle.checker.proofs.Passing.{PassedAt, passed-start, is-ready, passed-next, kept-is}
 use Rattle.checker.proofs.judge_cuts.Statement.{statement}
@@ -20,10 +21,10 @@ abbrev μ-loop : tie.MeasureT-loop
 μ-loop rows d n pass₀ t₀ pass t = n - t
 
 mul-nodes : tie.Need-mul-nodes Inv-loop μ-loop
-mul-nodes c = omega arith
+mul-nodes c = omega (arith, limits _ (c .before .pre .0))
 
 sub-nodes : tie.Need-sub-nodes Inv-loop μ-loop
-sub-nodes c = omega arith
+sub-nodes c = omega (arith, limits _ (c .before .pre .0))
 
 at-start-requires : tie.Need-at-start-requires Inv-loop μ-loop
 at-start-requires c κs = search needs
@@ -32,7 +33,7 @@ loop-holds : tie.Need-loop-holds Inv-loop μ-loop
 loop-holds c = (none-searched, rw (c .at-start .ensures) (passed-start (c .before .before .args .t1) _))
 
 element-copy-out-token-of : tie.Need-element-copy-out-token-of Inv-loop μ-loop
-element-copy-out-token-of c = omega arith
+element-copy-out-token-of c = omega (arith, limits _ (c .before .before .before .before .pre .0))
 
 token-of-requires : tie.Need-token-of-requires Inv-loop μ-loop
 token-of-requires c κs = search needs
@@ -40,7 +41,7 @@ token-of-requires c κs = search needs
 after-token-requires : tie.Need-after-token-requires Inv-loop μ-loop
 after-token-requires c κs =
     let p = c .before .before .before .before .before .before .pre in
-    is-ready _ (p .0) _ (c .before .before .loop-test .taken) (c .before .before .before .loop .inv .1) (c .token-of .ensures) _ (p .2)
+    is-ready _ (p .0) _ (c .before .before .loop-test .taken) (c .before .before .before .loop .inv .1) (c .token-of .ensures) _ (p .1)
 
 returns : tie.Need-returns Inv-loop μ-loop
 returns c =

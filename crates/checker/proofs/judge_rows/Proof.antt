@@ -5,7 +5,7 @@ use Prim.Native.Nat.{_-_}
 use native.Mathlib.Omega.{arith}
 use borrow.Author.Needs.{needs}
 use Rattle.rules.specs.Check.{fromRows}
-use Rattle.checker.proofs.Limits.{limits}
+use Rattle.rules.proofs.Limits.{limits}
 use Rattle.checker.proofs.FirstFault.{Searched, atFault, none-searched, module-fine, module-refused, modules-fine}
 use Rattle.checker.proofs.judge_rows.Statement.{statement}
 use Rattle.checker.proofs.judge_rows.Tie as tie
@@ -20,7 +20,7 @@ loop-holds : tie.Need-loop-holds Inv-loop μ-loop
 loop-holds c = none-searched
 
 judge-module-requires : tie.Need-judge-module-requires Inv-loop μ-loop
-judge-module-requires c κs = let p = c .before .before .before .pre in (limits _ (p .0), c .loop-test .taken, p .1)
+judge-module-requires c κs = let p = c .before .before .before .pre in (p .0, c .loop-test .taken, p .1)
 
 enum-told : tie.Need-enum-told Inv-loop μ-loop
 enum-told c = search needs
@@ -45,7 +45,7 @@ loop-again c =
     module-fine _ _ (l .loop-test .taken) (sym (b .judge-module .ensures) ∙ e) (l .before .loop .inv)
 
 judge-cuts-requires : tie.Need-judge-cuts-requires Inv-loop μ-loop
-judge-cuts-requires c κs = let p = c .before .before .before .pre in (p .0, limits _ (p .0), p .1)
+judge-cuts-requires c κs = c .before .before .before .pre
 
 returns-2 : tie.Need-returns-2 Inv-loop μ-loop
 returns-2 c = c .judge-cuts .ensures ∙ sym (modules-fine _ _ (c .before .loop-test .left) (c .before .before .loop .inv))

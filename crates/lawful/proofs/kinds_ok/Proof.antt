@@ -9,7 +9,7 @@ use borrow.Author.Needs.{needs}
 use borrow.Author.Tests.{le-leb, lt-leb}
 use Rattle.rules.specs.Search.{all}
 use Rattle.rules.specs.Design.{kindAt, lastKind}
-use Rattle.lawful.proofs.Testing.{all-none, all-more, all-fails}
+use Rattle.rules.proofs.Testing.{all-none, all-more, all-fails}
 use Rattle.lawful.proofs.kinds_ok.Statement.{statement}
 use Rattle.lawful.proofs.kinds_ok.Tie as tie
 

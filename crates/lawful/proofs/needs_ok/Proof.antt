@@ -7,7 +7,7 @@ use native.Mathlib.Omega.{arith}
 use borrow.Author.Needs.{needs}
 use Rattle.rules.specs.Search.{all}
 use Rattle.rules.specs.Design.{needAt, lawfulNeed}
-use Rattle.lawful.proofs.Testing.{failed, passed, all-none, all-more, all-fails}
+use Rattle.rules.proofs.Testing.{failed, passed, all-none, all-more, all-fails}
 use Rattle.lawful.proofs.needs_ok.Statement.{statement}
 use Rattle.lawful.proofs.needs_ok.Tie as tie
 

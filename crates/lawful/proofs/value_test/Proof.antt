@@ -3,7 +3,7 @@
 use borrow.Author.Needs.{needs}
 use Rattle.rules.specs.Design.{valueTest}
 use Rattle.rules.proofs.Nodes.{modules-within}
-use Rattle.lawful.proofs.Testing.{failed, passed}
+use Rattle.rules.proofs.Testing.{failed, passed}
 use Rattle.lawful.proofs.value_test.Statement.{statement}
 use Rattle.lawful.proofs.value_test.Tie as tie
 

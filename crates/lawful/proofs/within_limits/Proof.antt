@@ -6,7 +6,7 @@ use lib.Dec.{leb}
 use borrow.Author.Needs.{needs}
 use Rattle.rules.specs.Search.{all}
 use Rattle.rules.specs.Design.{mostColumns, mostRows, mostModules, lastKind, kindAt, inRange, withinLimits}
-use Rattle.lawful.proofs.Testing.{failed, passed, range-iff}
+use Rattle.rules.proofs.Testing.{failed, passed, range-iff}
 use Rattle.lawful.proofs.within_limits.Statement.{statement}
 use Rattle.lawful.proofs.within_limits.Tie as tie
 

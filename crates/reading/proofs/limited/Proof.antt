@@ -1,6 +1,6 @@
 -- With `take_number`'s answer in hand, the code's test is the rules' test. Assumes nothing.
 use borrow.Author.Needs.{needs}
-use Rattle.lawful.proofs.Testing.{failed, passed}
+use Rattle.rules.proofs.Testing.{failed, passed}
 use Rattle.reading.proofs.Answers.{unread, fails, passes}
 use Rattle.reading.proofs.limited.Statement.{statement}
 use Rattle.reading.proofs.limited.Tie as tie

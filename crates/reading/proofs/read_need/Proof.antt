@@ -1,7 +1,7 @@
 -- Each of the three numbers is the next one of the rules, and then the code asks the test that they ask. Assumes nothing.
 use borrow.Author.Needs.{needs}
 use Rattle.rules.specs.Bytes.{needOf}
-use Rattle.lawful.proofs.Testing.{failed, passed}
+use Rattle.rules.proofs.Testing.{failed, passed}
 use Rattle.reading.specs.Stages.{oneNeed}
 use Rattle.reading.proofs.Answers.{number-taken, number-refused}
 use Rattle.reading.proofs.read_need.Statement.{statement}

@@ -8,7 +8,7 @@ use Rattle.rules.specs.Search.{all}
 use Rattle.rules.specs.Slot.{slot}
 use Rattle.rules.specs.Test.{areStairs}
 use Rattle.stairs.specs.Walk.{nodeStairs}
-use Rattle.stairs.proofs.Testing.{all-none, all-more, all-fails}
+use Rattle.rules.proofs.Testing.{failed, passed, all-none, all-more, all-fails}
 use Rattle.stairs.proofs.Reaching.{node-room}
 use Rattle.stairs.proofs.all_stairs.Statement.{statement}
 use Rattle.stairs.proofs.all_stairs.Tie as tie
@@ -28,7 +28,7 @@ node-stairs-requires c κs = node-room (c .before .before .before .pre) (c .loop
 
 returns : tie.Need-returns Inv-loop μ-loop
 unfolding areStairs
-returns c = all-fails _ _ _ (c .before .before .loop-test .taken) (c .before .node-stairs .ensures) (c .if1 .taken)
+returns c = sym (all-fails _ _ _ (c .before .before .loop-test .taken) (failed (c .before .node-stairs .ensures) (c .if1 .taken)))
 
 add-t : tie.Need-add-t Inv-loop μ-loop
 add-t c = search needs
@@ -38,7 +38,7 @@ loop-less c = search needs
 
 loop-again : tie.Need-loop-again Inv-loop μ-loop
 loop-again c =
-    (omega arith, all-more _ _ (c .before .before .before .loop .inv .1) (c .before .node-stairs .ensures) (c .if1 .left))
+    (omega arith, all-more _ _ (c .before .before .before .loop .inv .1) (passed (c .before .node-stairs .ensures) (c .if1 .left)))
 
 returns-2 : tie.Need-returns-2 Inv-loop μ-loop
 unfolding areStairs

@@ -7,7 +7,7 @@ use borrow.Author.Needs.{needs}
 use Rattle.rules.specs.Search.{all}
 use Rattle.rules.specs.Slot.{slot}
 use Rattle.stairs.specs.Walk.{rowStairs}
-use Rattle.stairs.proofs.Testing.{all-none, all-more, all-fails}
+use Rattle.rules.proofs.Testing.{failed, passed, all-none, all-more, all-fails}
 use Rattle.stairs.proofs.node_stairs.Statement.{statement}
 use Rattle.stairs.proofs.node_stairs.Tie as tie
 
@@ -25,7 +25,7 @@ row-stairs-requires : tie.Need-row-stairs-requires Inv-loop μ-loop
 row-stairs-requires c κs = search needs
 
 returns : tie.Need-returns Inv-loop μ-loop
-returns c = all-fails _ _ _ (c .before .before .loop-test .taken) (c .before .row-stairs .ensures) (c .if1 .taken)
+returns c = sym (all-fails _ _ _ (c .before .before .loop-test .taken) (failed (c .before .row-stairs .ensures) (c .if1 .taken)))
 
 add-y : tie.Need-add-y Inv-loop μ-loop
 add-y c = search needs
@@ -35,7 +35,7 @@ loop-less c = search needs
 
 loop-again : tie.Need-loop-again Inv-loop μ-loop
 loop-again c =
-    (omega arith, all-more _ _ (c .before .before .before .loop .inv .1) (c .before .row-stairs .ensures) (c .if1 .left))
+    (omega arith, all-more _ _ (c .before .before .before .loop .inv .1) (passed (c .before .row-stairs .ensures) (c .if1 .left)))
 
 returns-2 : tie.Need-returns-2 Inv-loop μ-loop
 returns-2 c =

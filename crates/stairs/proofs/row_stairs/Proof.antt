@@ -8,7 +8,7 @@ use borrow.Author.Needs.{needs}
 use Rattle.rules.specs.Search.{all}
 use Rattle.rules.specs.Slot.{slot}
 use Rattle.stairs.specs.Walk.{slotStair}
-use Rattle.stairs.proofs.Testing.{all-none, all-more, all-fails}
+use Rattle.rules.proofs.Testing.{failed, passed, all-none, all-more, all-fails}
 use Rattle.stairs.proofs.Reaching.{on-chip, slot-room, slot-tested}
 use Rattle.stairs.proofs.row_stairs.Statement.{statement}
 use Rattle.stairs.proofs.row_stairs.Tie as tie
@@ -38,7 +38,7 @@ is-stair-requires c κs =
     (omega (arith, slot-room (s .pre .0) on, c .slot-start .ensures .0), on, search needs)
 
 returns : tie.Need-returns Inv-loop μ-loop
-returns c = all-fails _ _ _ (c .before .before .before .loop-test .taken) (answered (c .before)) (c .if1 .taken)
+returns c = sym (all-fails _ _ _ (c .before .before .before .loop-test .taken) (failed (answered (c .before)) (c .if1 .taken)))
 
 add-x : tie.Need-add-x Inv-loop μ-loop
 add-x c = search needs
@@ -47,7 +47,7 @@ loop-less : tie.Need-loop-less Inv-loop μ-loop
 loop-less c = search needs
 
 loop-again : tie.Need-loop-again Inv-loop μ-loop
-loop-again c = (omega arith, all-more _ _ (c .before .before .before .before .loop .inv .1) (answered (c .before)) (c .if1 .left))
+loop-again c = (omega arith, all-more _ _ (c .before .before .before .before .loop .inv .1) (passed (answered (c .before)) (c .if1 .left)))
 
 returns-2 : tie.Need-returns-2 Inv-loop μ-loop
 returns-2 c =

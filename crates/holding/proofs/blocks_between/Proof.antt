@@ -1,13 +1,13 @@
--- `checker::blocks_between` meets its contract: the difference is taken only where it is one, and is 0 otherwise, as the subtraction of
+-- `holding::blocks_between` meets its contract: the difference is taken only where it is one, and is 0 otherwise, as the subtraction of
 -- numbers is.
 -- Assumes nothing.
 use mathlib.Core.Path.{refl}
 use native.Mathlib.Omega.{arith}
 use native.Mathlib.Nat.{div-le-self}
 use borrow.Author.Needs.{needs}
-use Rattle.checker.specs.Modules.{blocksBetween}
-use Rattle.checker.proofs.blocks_between.Statement.{statement}
-use Rattle.checker.proofs.blocks_between.Tie as tie
+use Rattle.rules.specs.Test.{blocksBetween}
+use Rattle.holding.proofs.blocks_between.Statement.{statement}
+use Rattle.holding.proofs.blocks_between.Tie as tie
 
 sub-first : tie.Need-sub-first
 sub-first c = search needs

@@ -1,4 +1,4 @@
--- `checker::is_at_most` meets its contract: each way out rewrites the test with the comparisons that led there.
+-- `holding::is_at_most` meets its contract: each way out rewrites the test with the comparisons that led there.
 -- Assumes nothing.
 use mathlib.Core.Path.{_≡_}
 use Prim.Native.Nat.{_≤_}
@@ -6,8 +6,8 @@ use lib.Dec.{leb}
 use borrow.Author.Tests.{le-leb, lt-leb}
 use Rattle.rules.specs.declared.Need.{Need}
 use Rattle.rules.specs.Check.{isAtMost}
-use Rattle.checker.proofs.is_at_most.Statement.{statement}
-use Rattle.checker.proofs.is_at_most.Tie as tie
+use Rattle.holding.proofs.is_at_most.Statement.{statement}
+use Rattle.holding.proofs.is_at_most.Tie as tie
 
 last : (n m : Need) → n .clbs ≤ m .clbs → n .rams ≤ m .rams → leb (n .multipliers) (m .multipliers) ≡ isAtMost n m
 unfolding isAtMost

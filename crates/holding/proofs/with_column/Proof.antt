@@ -1,11 +1,11 @@
--- `checker::with_column` meets its contract: of the three kinds one at most is the column's.
+-- `holding::with_column` meets its contract: of the three kinds one at most is the column's.
 -- Assumes nothing.
 use native.Mathlib.Nat.{add-zero}
 use borrow.Author.Tests.{ne-eqb}
 use borrow.Author.Needs.{needs}
-use Rattle.checker.specs.Modules.{withColumn}
-use Rattle.checker.proofs.with_column.Statement.{statement}
-use Rattle.checker.proofs.with_column.Tie as tie
+use Rattle.holding.specs.Held.{withColumn}
+use Rattle.holding.proofs.with_column.Statement.{statement}
+use Rattle.holding.proofs.with_column.Tie as tie
 
 add-t8 : tie.Need-add-t8
 add-t8 c = search needs

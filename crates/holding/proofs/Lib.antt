@@ -1,0 +1,2 @@
+-- Laws of what a rectangle holds.
+pub mod Holding

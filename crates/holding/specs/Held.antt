@@ -1,0 +1,19 @@
+-- What is held, column by column.
+use Prim.Native.Nat.{ℕ, _+_, _≤_}
+use lib.Dec.{eqb}
+use Rattle.rules.specs.declared.Need.{Need}
+use Rattle.rules.specs.Test.{onlyIf}
+
+-- at most so many of each kind
+pub record EachUpTo (most : ℕ) (n : Need) : Type 0 where
+  pub clbs : n .clbs ≤ most
+  pub rams : n .rams ≤ most
+  pub multipliers : n .multipliers ≤ most
+
+-- one column more, which adds what it holds of its own kind
+unfoldable pub withColumn : Need → ℕ → Need → Need
+withColumn held kind column = record {
+  clbs = held .clbs + onlyIf (eqb kind 0) (column .clbs);
+  rams = held .rams + onlyIf (eqb kind 1) (column .rams);
+  multipliers = held .multipliers + onlyIf (eqb kind 2) (column .multipliers);
+}
