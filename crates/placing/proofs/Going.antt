@@ -1,0 +1,62 @@
+-- Going down for a design: the rectangles that are laid out over stairs are on the chip, so each can be tested; and going down with the
+-- test of the leaves is laying out, and then testing every place. Assumes nothing.
+use mathlib.Core.Path.{_≡_, refl, sym, _∙_}
+use mathlib.Core.Bool.{Bool, true, false, So}
+use mathlib.Core.List.{List}
+use Prim.Native.Nat.{ℕ, _≤_}
+use native.Mathlib.Omega.{arith}
+use lib.ListN.{length}
+use Rattle.rules.specs.declared.Shape.{Shape}
+use Rattle.rules.specs.declared.Design.{Design}
+use Rattle.rules.specs.Search.{all}
+use Rattle.rules.specs.Design.{nodes, LawfulDesign, slotsOf}
+use Rattle.rules.specs.Check.{isSuited}
+use Rattle.rules.specs.Service.{workOf}
+use Rattle.rules.proofs.Searching.{absurd-so}
+use Rattle.rules.proofs.Limits.{limits}
+use Rattle.rules.proofs.Floorplans.{laid-on-chip}
+use Rattle.slots.specs.declared.Board.{Board}
+use Rattle.trees.specs.Positions.{LeftChildren}
+use Rattle.trees.proofs.Lefts.{left-child}
+use Rattle.choosing.specs.declared.Layout.{Layout}
+use Rattle.choosing.specs.Choose.{Ready, slotsIn}
+use Rattle.choosing.specs.Descend.{placeOf, anySuits, LaidOut, LaysOut}
+use Rattle.choosing.proofs.Suited.{laid-suited}
+use Rattle.slots.specs.Size.{boardOf}
+use Rattle.placing.specs.Place.{PlacesOn, FromStairs, WentDown}
+
+-- work with room for a lawful design's lists is ready for its board
+pub ready : (d : Design) {work : List ℕ} {board : Board} → LawfulDesign d → workOf d ≤ length work → board ≡ boardOf d → Ready board (nodes d) work
+ready d lawful h e =
+    let l = limits d lawful in
+    rw e (record { columns = (l .wide, l .width); rows = (l .high, l .height); nodes = (omega arith, omega arith); room = h })
+
+module _ {d : Design} {work : List ℕ} {s : Shape} (from : FromStairs d work s) where
+  -- what laying out gives of this design
+  pub laid-out : {board : Board} {lefts : List ℕ} {r : Layout} → board ≡ boardOf d → LeftChildren d lefts
+      → LaysOut board (slotsIn board work) (d .tokens) lefts (nodes d) s r → LaidOut (boardOf d) (slotsOf d work) d s r
+  laid-out e l z = (rw e at z) d (from .lawful) refl refl (record { left = λ t k u v h q. left-child (from .lawful) l h q })
+
+  module _ {r : Layout} (z : LaidOut (boardOf d) (slotsOf d work) d s r) where
+    pub places-on : So (r .ok) → PlacesOn (d .width .0) (d .height .0) (d .modules) (r .places)
+    places-on ok = record {
+      on = λ k h. rw (z .places ok k h)
+          (laid-on-chip d (from .lawful) (slotsOf d work) (from .stairs) anySuits s (from .stored) (sym (z .ok) ∙ ok) k h);
+    }
+
+    -- a cut has no pair
+    pub no-pair : r .ok ≡ false → WentDown d (slotsOf d work) s r
+    no-pair e = record {
+      ok = e ∙ sym (laid-suited (boardOf d) (isSuited d) (slotsOf d work) d (from .lawful) s r z ∙ rw e);
+      places = λ t. absurd-so (sym e ∙ t);
+      chip = λ t. absurd-so (sym e ∙ t);
+    }
+
+    -- every cut has a pair: the test of the places decides
+    pub all-tested : {suited : Bool} → r .ok ≡ true → suited ≡ all (d .modules) (λ k. isSuited d k (placeOf (r .places) k))
+        → WentDown d (slotsOf d work) s (record { ok = suited; places = r .places })
+    all-tested e q = record {
+      ok = q ∙ sym (laid-suited (boardOf d) (isSuited d) (slotsOf d work) d (from .lawful) s r z ∙ rw e);
+      places = λ _. z .places e;
+      chip = λ _. places-on e;
+    }

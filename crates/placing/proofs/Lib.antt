@@ -1,0 +1,4 @@
+-- Laws of placing from stored lists.
+pub mod Rows
+pub mod Going
+pub mod Answering

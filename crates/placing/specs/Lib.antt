@@ -1,0 +1,2 @@
+-- What placing from stored lists asks for, and what it answers.
+pub mod Place
