@@ -1,11 +1,12 @@
 -- Each answer of a service meets its contract where its condition holds; the conditions of the others contradict it. Assumes nothing.
 use mathlib.Core.Path.{_≡_, refl, sym, _∙_, ap}
 use mathlib.Core.Logic.{_⊎_, inl, inr}
-use mathlib.Core.Bool.{So}
+use mathlib.Core.Bool.{Bool, false, _&&_, So}
 use mathlib.Core.List.{List}
 use Prim.Native.Nat.{ℕ, _*_, _≤_, _<_}
 use native.Mathlib.Omega.{arith}
 use borrow.Author.Tests.{le-leb, lt-leb}
+use lib.Dec.{leb}
 use lib.ListN.{length}
 use Rattle.rules.specs.declared.Design.{Design}
 use Rattle.rules.specs.declared.Edit.{Edit}
@@ -14,12 +15,16 @@ use Rattle.rules.specs.declared.Refusal.the-variants.{TooShort, Unreliable, NoS
 use Rattle.rules.specs.declared.Reply.{Reply}
 use Rattle.rules.specs.declared.Reply.the-variants.{Done, Refused}
 use Rattle.rules.specs.declared.Handed.{Handed}
-use Rattle.rules.specs.Slot.{PastKept}
-use Rattle.rules.specs.Design.{valueTest, LawfulDesign, slotsOf, AllStairs, OwnLists}
+use Rattle.rules.specs.declared.Planned.{Planned}
+use Rattle.rules.specs.declared.Planned.the-variants as planned
+use Rattle.rules.specs.Design.{valueTest, LawfulDesign, slotsOf, AllStairs}
 use Rattle.rules.specs.Edit.{namesPlace, changed, EditedLists}
 use Rattle.rules.specs.Check.{verdict, judgedRows, fromRows}
-use Rattle.rules.specs.Service.{workOf, Lists, Edits, Checks}
+use Rattle.rules.specs.Service.{Enough, workOf, rowsOf, Lists, Plans, Places, Edits, Checks}
+use Rattle.rules.proofs.Searching.{absurd-so, test-iffs}
 use Rattle.rules.proofs.Nodes.{never-both, same-refusal}
+use Rattle.listing.specs.Making.{ListedAfresh}
+use Rattle.placing.specs.Place.{PlacedFrom}
 
 -- list
 module _ (d : Design) (before : List ℕ) where
@@ -38,11 +43,100 @@ module _ (d : Design) (before : List ℕ) where
       done = λ _ k. absurd (omega arith);
     }
 
-    pub list-done : {after : List ℕ} → workOf d ≤ length before → PastKept (workOf d) before after × OwnLists d (slotsOf d after) → Lists d before Done after
+    pub list-done : {after : List ℕ} → workOf d ≤ length before → ListedAfresh d before after → Lists d before Done after
     list-done h z = record {
       unlawful = λ e u. never-both d u l;
       short = λ _ k. absurd (omega arith);
       done = λ _ _. (refl, z .0, z .1);
+    }
+
+-- the room that plan and place test
+abbrev HasRoom : Design → List ℕ → List ℕ → Bool
+HasRoom d work rows = leb (workOf d) (length work) && leb (rowsOf d) (length rows)
+
+pub room : (d : Design) (work rows : List ℕ) → LawfulDesign d → So (HasRoom d work rows) → Enough d work rows
+room d work rows l s = let h = simp test-iffs at s in record { lawful = l; bytes = h .0; places = h .1 }
+
+-- work of the same length serves as well
+pub room-kept : {d : Design} {work after rows : List ℕ} → Enough d work rows → length after ≡ length work → Enough d after rows
+room-kept e q = let b = e .bytes in record { lawful = e .lawful; bytes = omega arith; places = e .places }
+
+module _ (d : Design) (work rows : List ℕ) where
+  no-room : {A : Type 0} → HasRoom d work rows ≡ false → Enough d work rows → A
+  no-room f e = absurd-so (sym f ∙ simp test-iffs (e .bytes, e .places))
+
+  not-short : {A : Type 0} → Enough d work rows → (length work < workOf d) ⊎ (length rows < rowsOf d) → A
+  not-short e (inl h) = let b = e .bytes in absurd (omega arith)
+  not-short e (inr h) = let b = e .places in absurd (omega arith)
+
+  -- plan
+  pub plan-refuses : {e : Refusal} → valueTest d ≡ Refused e → Plans d work rows (planned.Refused e) work rows
+  plan-refuses u = record {
+    unlawful = λ f q. (ap planned.Refused (same-refusal d u q), refl, refl);
+    short = λ l _. never-both d u l;
+    listed = λ e. never-both d u (e .lawful);
+    none = λ e _. never-both d u (e .lawful);
+    done = λ e s p _ _. never-both d u (e .lawful);
+  }
+
+  pub plan-short : LawfulDesign d → HasRoom d work rows ≡ false → Plans d work rows (planned.Refused TooShort) work rows
+  plan-short l f = record {
+    unlawful = λ e u. never-both d u l;
+    short = λ _ _. (refl, refl, refl);
+    listed = λ e. no-room f e;
+    none = λ e _. no-room f e;
+    done = λ e s p _ _. no-room f e;
+  }
+
+  pub plan-done : {after rows' : List ℕ} {r : Planned} → Enough d work rows → ListedAfresh d work after → PlacedFrom d after rows r rows' → Plans d work rows r after rows'
+  plan-done e l z = record {
+    unlawful = λ f u. never-both d u (e .lawful);
+    short = λ _ h. not-short e h;
+    listed = λ _. l;
+    none = λ _. z .none;
+    done = λ _. z .done;
+  }
+
+  -- place
+  pub place-refuses : {e : Refusal} → valueTest d ≡ Refused e → Places d work rows (planned.Refused e) rows
+  place-refuses u = record {
+    unlawful = λ f q. (ap planned.Refused (same-refusal d u q), refl);
+    short = λ l _. never-both d u l;
+    stranger = λ e _. never-both d u (e .lawful);
+    none = λ e _ _. never-both d u (e .lawful);
+    lost = λ e _ s _ _. never-both d u (e .lawful);
+    done = λ e _ s p _ _. never-both d u (e .lawful);
+  }
+
+  pub place-short : LawfulDesign d → HasRoom d work rows ≡ false → Places d work rows (planned.Refused TooShort) rows
+  place-short l f = record {
+    unlawful = λ e u. never-both d u l;
+    short = λ _ _. (refl, refl);
+    stranger = λ e _. no-room f e;
+    none = λ e _ _. no-room f e;
+    lost = λ e _ s _ _. no-room f e;
+    done = λ e _ s p _ _. no-room f e;
+  }
+
+  module _ (e : Enough d work rows) where
+    pub place-stranger : (AllStairs d (slotsOf d work) → ⊥) → Places d work rows (planned.Refused Unreliable) rows
+    place-stranger o = record {
+      unlawful = λ f u. never-both d u (e .lawful);
+      short = λ _ h. not-short e h;
+      stranger = λ _ _. (refl, refl);
+      none = λ _ s _. absurd (o s);
+      lost = λ _ s _ _ _. absurd (o s);
+      done = λ _ s _ _ _ _. absurd (o s);
+    }
+
+    pub place-done : {rows' : List ℕ} {r : Planned} → AllStairs d (slotsOf d work) → PlacedFrom d work rows r rows' → Places d work rows r rows'
+    place-done s z = record {
+      unlawful = λ f u. never-both d u (e .lawful);
+      short = λ _ h. not-short e h;
+      stranger = λ _ o. absurd (o s);
+      none = λ _ _. z .none;
+      lost = λ _ _. z .lost;
+      done = λ _ _. z .done;
     }
 
 -- edit

@@ -16,7 +16,7 @@ use Rattle.rules.proofs.Searching.{absurd-so}
 use Rattle.rules.proofs.Limits.{limits}
 use Rattle.rules.proofs.Stairs.{stairs-iff}
 use Rattle.rules.proofs.Changing.{edit-keeps, edit-lawful}
-use Rattle.lawful.proofs.Testing.{failed, passed}
+use Rattle.rules.proofs.Testing.{failed, passed}
 use Rattle.stairs.specs.Walk.{Room}
 
 -- for the nodes, for their rows, for their corners and for their bytes

@@ -7,19 +7,23 @@ use editing::with_change;
 use lawful::value_test;
 use listing::list_all;
 use listing::list_way;
+use placing::place_lists;
 use rules::Design;
 use rules::Edit;
 use rules::Handed;
+use rules::Planned;
 use rules::Refusal;
 use rules::Reply;
 use rules::Written;
 use slots::board_of;
 use stairs::all_stairs;
 ghost use mathlib.Core.Path.{_≡_};
+ghost use mathlib.Core.Bool.{_&&_};
 ghost use Prim.Native.Nat.{_≤_};
+ghost use lib.Dec.{leb};
 ghost use lib.ListN.{length};
 ghost use Rattle.rules.specs.Design.{LawfulDesign, nodes, slotsOf};
-ghost use Rattle.rules.specs.Service.{workOf, Reads, Writes, Lists, Edits, Checks};
+ghost use Rattle.rules.specs.Service.{workOf, rowsOf, Reads, Writes, Lists, Plans, Places, Edits, Checks};
 ghost use Rattle.rules.specs.declared.Reply.the-variants.{Refused};
 ghost use Rattle.rules.specs.Test.{areStairs};
 
@@ -31,6 +35,14 @@ fn work_needed(design: Design) -> usize
     let width = design.width.0;
     let nodes = 2 * design.modules - 1;
     nodes * design.height.0 * width * width
+}
+
+// The lent bytes have room for a lawful design's lists and rows.
+fn has_room(design: Design, work: &[u8], rows: &[u8]) -> bool
+    requires { ⌜ LawfulDesign design ⌝ }
+    ensures { λ r. ⌜ r ≡ (leb (workOf design) (length (now (work .entry))) && leb (rowsOf design) (length (now (rows .entry)))) ⌝ }
+{
+    work_needed(design) <= work.len() && 4 * design.modules <= rows.len()
 }
 
 // Every slot of every node is a stair.
@@ -68,6 +80,38 @@ pub fn list(design: Design, work: &mut [u8]) -> Reply
     }
     list_all(work, design);
     Reply::Done
+}
+
+// Fills the lists, then places from them.
+pub fn plan(design: Design, work: &mut [u8], rows: &mut [u8]) -> Planned
+    ensures { λ r. ⌜ Plans design (now (work .entry)) (now (rows .entry)) r (now (work .exit)) (now (rows .exit)) ⌝ }
+{
+    let reply = value_test(design);
+    if let Reply::Refused(e) = reply {
+        return Planned::Refused(e);
+    }
+    if !has_room(design, work, rows) {
+        return Planned::Refused(Refusal::TooShort);
+    }
+    list_all(work, design);
+    place_lists(design, work, rows)
+}
+
+// Places from lists already filled, whoever filled them.
+pub fn place(design: Design, work: &[u8], rows: &mut [u8]) -> Planned
+    ensures { λ r. ⌜ Places design (now (work .entry)) (now (rows .entry)) r (now (rows .exit)) ⌝ }
+{
+    let reply = value_test(design);
+    if let Reply::Refused(e) = reply {
+        return Planned::Refused(e);
+    }
+    if !has_room(design, work, rows) {
+        return Planned::Refused(Refusal::TooShort);
+    }
+    if !are_stairs(design, work) {
+        return Planned::Refused(Refusal::Unreliable);
+    }
+    place_lists(design, work, rows)
 }
 
 // Changes one need or turns one cut, and brings the lists up to date.

@@ -4,10 +4,11 @@ use mathlib.Core.Path.{sym, _∙_}
 use mathlib.Core.Bool.{So}
 use native.Mathlib.Omega.{arith}
 use borrow.Author.Needs.{needs}
+use Rattle.rules.specs.declared.Design.{Design}
 use Rattle.rules.specs.Design.{LawfulDesign}
 use Rattle.rules.specs.Edit.{namesPlace}
 use Rattle.rules.proofs.Searching.{absurd-so}
-use Rattle.lawful.proofs.Testing.{failed, passed}
+use Rattle.rules.proofs.Testing.{failed, passed}
 use Rattle.listing.proofs.Passing.{way-made}
 use Rattle.cellweaver.proofs.Needed.{no-stairs, stairs, edited-lawful, edited-work}
 use Rattle.cellweaver.proofs.Answers.{edit-refuses, edit-unnamed, edit-short, edit-stranger, edit-done}
@@ -34,6 +35,9 @@ enum-told c = search needs
 -- past the tests, and past 11
 is-lawful : (c : tie.After-enum-told) → LawfulDesign (c .before .before .before .before .args .design)
 is-lawful c = sym (c .before .before .value-test .ensures) ∙ c .enum-told .given .1
+
+abbrev the-design : tie.Else1 → Design
+the-design c = c .before .before .before .before .before .before .args .design
 
 is-named : (c : tie.Else1) → let s = c .before .before .before .before .before .before in So (namesPlace (s .args .design) (s .args .change))
 is-named c = passed (c .before .names-place .ensures) (c .if1 .left)
@@ -71,8 +75,8 @@ same-length c = search needs
 
 returns-4 : tie.Need-returns-4
 returns-4 c =
-    let t = c .before in let a = t .before in let e = a .before .before .before .before in let d = e .before .before .before .before .before .before .args .design in
-    edit-stranger d _ _ (is-lawful (e .before .before)) (is-named e) (omega arith) (c .refused4 .ensures) (no-stairs d _ (a .are-stairs .ensures) (t .if3 .taken))
+    let t = c .before in let a = t .before in let e = a .before .before .before .before in
+    edit-stranger _ _ _ (is-lawful (e .before .before)) (is-named e) (omega arith) (c .refused4 .ensures) (no-stairs (the-design e) _ (a .are-stairs .ensures) (t .if3 .taken))
 
 with-change-requires : tie.Need-with-change-requires
 with-change-requires c κs = let e = c .before .before .before .before .before in (is-lawful (e .before .before), is-named e)
@@ -91,8 +95,7 @@ same-length-2 c = search needs
 returns-5 : tie.Need-returns-5
 returns-5 c =
     let l = c .before .before in let n = l .before in let w = n .before .before in let o = w .before in let a = o .before in let e = a .before .before .before .before in
-    let d = e .before .before .before .before .before .before .args .design in
-    edit-done d _ _ (is-lawful (e .before .before)) (is-named e) (omega arith) (w .with-change .ensures) (stairs d _ (a .are-stairs .ensures) (o .if3 .left))
+    edit-done _ _ _ (is-lawful (e .before .before)) (is-named e) (omega arith) (w .with-change .ensures) (stairs (the-design e) _ (a .are-stairs .ensures) (o .if3 .left))
     (way-made _ _ (rw (w .with-change .ensures, n .changed-node .ensures) at (l .list-way .ensures)))
 
 pub edit-spec : {M : Type 1} → statement M

@@ -1,0 +1,22 @@
+-- `cellweaver::has_room` meets its contract: two lengths, compared one after the other. Assumes nothing.
+use native.Mathlib.Omega.{arith}
+use borrow.Author.Tests.{le-leb, lt-leb}
+use Rattle.cellweaver.proofs.Needed.{few}
+use borrow.Author.Needs.{needs}
+use Rattle.cellweaver.proofs.has_room.Statement.{statement}
+use Rattle.cellweaver.proofs.has_room.Tie as tie
+
+work-needed-requires : tie.Need-work-needed-requires
+work-needed-requires c κs = search needs
+
+mul-result : tie.Need-mul-result
+mul-result c = let f = few _ (c .before .before .before .before .before .pre) in omega arith
+
+returns : tie.Need-returns
+returns c = let w = c .before .before in let e = w .work-needed .ensures in simp (le-leb _ _ (rw e at (c .before .if1 .taken)))
+
+returns-2 : tie.Need-returns-2
+returns-2 c = let w = c .before in let e = w .work-needed .ensures in rw e (simp (lt-leb _ _ (rw e at (c .if1 .left))))
+
+pub has-room-spec : {M : Type 1} → statement M
+has-room-spec = tie.close (tie.spec work-needed-requires mul-result returns returns-2)
