@@ -1,0 +1,3 @@
+-- What the proofs share, and what a caller takes.
+mod Reading
+pub mod Printed

@@ -1,0 +1,2 @@
+-- What the plan program's answer is.
+pub mod Run
