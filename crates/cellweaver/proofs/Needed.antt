@@ -4,7 +4,7 @@ use mathlib.Core.Bool.{Bool, true, false, not, So}
 use mathlib.Core.List.{List}
 use Prim.Native.Nat.{ℕ, _*_, _≤_}
 use native.Mathlib.Omega.{arith}
-use native.Mathlib.Nat.{mul-le-mul}
+use native.Mathlib.Nat.{mul-le-mul, mul-le-mul-right}
 use lib.ListN.{length}
 use Rattle.rules.specs.declared.Design.{Design}
 use Rattle.rules.specs.declared.Edit.{Edit}
@@ -35,9 +35,13 @@ few d lawful =
     let e : nodes d * d .height .0 * d .width .0 * d .width .0 ≤ 31 * 64 * 64 * 64 = mul-le-mul b (l .width) in
     record { some = omega arith; places = n; rows = a; corners = b; bytes = e }
 
--- so the stair test has its room
-pub stairs-room : (d : Design) {work : List ℕ} → LawfulDesign d → workOf d ≤ length work → Room (d .width .0) (d .height .0) (nodes d) work
-stairs-room d lawful h = let l = limits d lawful in let f = few d lawful in record { columns = l .width; rows = l .height; few = omega arith; bytes = h }
+-- so the stair test of the first nodes has its room
+pub stairs-room : (d : Design) (n : ℕ) {work : List ℕ} → LawfulDesign d → workOf d ≤ length work → n ≤ nodes d → Room (d .width .0) (d .height .0) n work
+stairs-room d n lawful h k =
+    let l = limits d lawful in let f = few d lawful in let a : n * d .height .0 ≤ nodes d * d .height .0 = mul-le-mul-right (d .height .0) k in
+    let b : n * d .height .0 * d .width .0 ≤ nodes d * d .height .0 * d .width .0 = mul-le-mul-right (d .width .0) a in
+    let e : n * d .height .0 * d .width .0 * d .width .0 ≤ workOf d = mul-le-mul-right (d .width .0) b in
+    record { columns = l .width; rows = l .height; few = omega arith; bytes = omega arith }
 
 -- what the stair test says, in the rules' words
 pub no-stairs : (d : Design) (work : List ℕ) {r : Bool} → r ≡ areStairs (d .width .0) (d .height .0) (nodes d) (slotsOf d work) → not r ≡ true

@@ -13,7 +13,7 @@ use Rattle.rules.specs.declared.Design.{Design}
 use Rattle.rules.specs.declared.Edit.{Edit}
 use Rattle.rules.specs.declared.Edit.the-variants.{Change, Turn}
 use Rattle.rules.specs.declared.Refusal.{Refusal}
-use Rattle.rules.specs.declared.Refusal.the-variants.{Unfinished, ExtraBytes, NoPlacement, OffTheChip, ShortOfNeed}
+use Rattle.rules.specs.declared.Refusal.the-variants.{Unfinished, ExtraBytes, Unreliable, NoPlacement, OffTheChip, ShortOfNeed}
 use Rattle.rules.specs.declared.Reply.{Reply}
 use Rattle.rules.specs.declared.Reply.the-variants.{Done, Refused}
 use Rattle.rules.specs.declared.Handed.{Handed}
@@ -22,11 +22,11 @@ use Rattle.rules.specs.declared.Planned.{Planned}
 use Rattle.rules.specs.declared.Planned.the-variants.{Box}
 use Rattle.rules.specs.declared.Planned.the-variants as planned
 use Rattle.rules.specs.Search.{all, least, count, total}
-use Rattle.rules.specs.Chip.{shape, rectangle, left, columnOf, coversBlock, heldBetween, holds}
+use Rattle.rules.specs.Chip.{corner, shape, rectangle, left, columnOf, coversBlock, heldBetween, holds}
 use Rattle.rules.specs.Tree.{has, stands, joined, added, standing}
 use Rattle.rules.specs.Slot.{slot}
 use Rattle.rules.specs.Choice.{Chosen}
-use Rattle.rules.specs.Design.{LawfulDesign, chipOf, valueTest, withinLimits, inRange, lawfulNeed, slotsOf, OwnLists, rootSlot}
+use Rattle.rules.specs.Design.{LawfulDesign, chipOf, valueTest, withinLimits, inRange, lawfulNeed, slotsOf, AllStairs, OwnLists, rootSlot}
 use Rattle.rules.specs.Edit.{namesPlace, changed}
 use Rattle.rules.specs.Bytes.{padded, numberBytes, needBytes, rowBytes, designBytes, numberAt, secondByte, thirdByte, checkedAt, rowAt, needOf, tokensAt, designAt}
 use Rattle.rules.specs.Check.{fromRows, isOnChip, isAtMost, isKept, judgedCuts, judgedRows, verdict}
@@ -181,6 +181,28 @@ placer-refuses-all work rows out f own k x =
     let (ch, (p, down), _) = D-plan (slotsOf D work) (own .lists) in
     let h : Enough D work rows = record { lawful = D-lawful; bytes = own .bytes; places = k } in
     let e = x .done h (own-stairs D D-lawful (slotsOf D work) (own .lists)) _ p ch down .0 in let z : _≡_ {A = ℕ} 0 1 = cc e in omega arith
+
+-- work that no listing left: 255 in every byte, where no height of D's is over 6
+pub stranger : List ℕ
+stranger = replicate 450 255
+
+no-stairs : AllStairs D (slotsOf D stranger) → ⊥
+unfolding D slot stranger
+no-stairs st =
+    let h = st 0 (corner 0 0) (omega arith) (record { column = omega arith; row = omega arith }) .rows 0 (omega arith) in omega arith
+
+stranger-enough : (rows : List ℕ) → 8 ≤ length rows → Enough D stranger rows
+unfolding stranger
+stranger-enough rows k = D-enough stranger rows (omega (arith, length-replicate {A = ℕ} 450 255)) k
+
+-- a placer that skips the stair test: over those bytes it has to answer 9
+pub placer-skips-the-stair-test : (rows out : List ℕ) (r : Planned) → 8 ≤ length rows → Places D stranger rows r out → r ≡ planned.Refused Unreliable
+placer-skips-the-stair-test rows out r k x = x .stranger (stranger-enough rows k) no-stairs .0
+
+-- and so has an edit
+pub edit-skips-the-stair-test : (after : List ℕ) (r : Handed) → Edits D (Turn 2) stranger r after → r .reply ≡ Refused Unreliable
+edit-skips-the-stair-test after r x =
+    ap (λ h. h .reply) (x .stranger D-lawful names-turned (stranger-enough (replicate 8 0) (omega (arith, length-replicate {A = ℕ} 8 0)) .bytes) no-stairs .0)
 
 -- over own lists, an edit that names a place is granted, makes its change and leaves own lists
 granted : (d : Design) (e : Edit) → So (namesPlace d e) → (work after : List ℕ) (r : Handed) → Own d work → Edits d e work r after

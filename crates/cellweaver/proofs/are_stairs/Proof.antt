@@ -12,10 +12,10 @@ mul-all-stairs : tie.Need-mul-all-stairs
 mul-all-stairs c = let f = few _ (c .before .before .before .pre .0) in omega arith
 
 sub-all-stairs : tie.Need-sub-all-stairs
-sub-all-stairs c = few _ (c .before .before .before .pre .0) .some
+sub-all-stairs c = let f = few _ (c .before .before .before .pre .0) in omega arith
 
 all-stairs-requires : tie.Need-all-stairs-requires
-all-stairs-requires c κs = let p = c .before .before .before .pre in rw (c .before .board-of .ensures) (stairs-room _ (p .0) (p .1))
+all-stairs-requires c κs = let p = c .before .before .before .pre in rw (c .before .board-of .ensures) (stairs-room _ _ (p .0) (p .1) (omega arith))
 
 returns : tie.Need-returns
 returns c = rw (c .before .before .board-of .ensures) at (c .all-stairs .ensures)

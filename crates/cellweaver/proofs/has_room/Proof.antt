@@ -1,6 +1,9 @@
 -- `cellweaver::has_room` meets its contract: two lengths, compared one after the other. Assumes nothing.
+use Prim.Native.Nat.{_≤_, _<_}
 use native.Mathlib.Omega.{arith}
 use borrow.Author.Tests.{le-leb, lt-leb}
+use lib.ListN.{length}
+use Rattle.rules.specs.Service.{workOf}
 use Rattle.cellweaver.proofs.Needed.{few}
 use borrow.Author.Needs.{needs}
 use Rattle.cellweaver.proofs.has_room.Statement.{statement}
@@ -13,10 +16,14 @@ mul-result : tie.Need-mul-result
 mul-result c = let f = few _ (c .before .before .before .before .before .pre) in omega arith
 
 returns : tie.Need-returns
-returns c = let w = c .before .before in let e = w .work-needed .ensures in simp (le-leb _ _ (rw e at (c .before .if1 .taken)))
+returns c =
+    let w = c .before .before in let e = w .work-needed .ensures in let s = w .before .before .before .args in
+    let h : workOf (s .design) ≤ length (s .work .now) = omega arith in simp (le-leb _ _ h)
 
 returns-2 : tie.Need-returns-2
-returns-2 c = let w = c .before in let e = w .work-needed .ensures in rw e (simp (lt-leb _ _ (rw e at (c .if1 .left))))
+returns-2 c =
+    let w = c .before in let e = w .work-needed .ensures in let s = w .before .before .before .args in
+    let h : length (s .work .now) < workOf (s .design) = omega arith in rw e (simp (lt-leb _ _ h))
 
 pub has-room-spec : {M : Type 1} → statement M
 has-room-spec = tie.close (tie.spec work-needed-requires mul-result returns returns-2)
