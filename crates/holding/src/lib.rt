@@ -16,10 +16,15 @@ pub fn blocks_between(block: Rows, low: Rows, far: Rows) -> usize
     requires { ⌜ (0 < block .0) × (block .0 ≤ mostRows) × (low .0 ≤ mostRows) × (far .0 ≤ mostRows) ⌝ }
     ensures { λ r. ⌜ (r ≡ blocksBetween (block .0) (low .0) (far .0)) × (r ≤ mostRows) ⌝ }
 {
-    let high = block.0;
-    let first = (low.0 + (high - 1)) / high;
-    let end = far.0 / high;
-    if first <= end { end - first } else { 0 }
+    // divided in 32 bits: the numbers are small, and no processor divides slower so
+    let high = block.0 as u32;
+    let first = (low.0 as u32 + (high - 1)) / high;
+    let end = far.0 as u32 / high;
+    if first <= end {
+        (end - first) as usize
+    } else {
+        0
+    }
 }
 
 // What is held with one column more, which adds what it holds of its own kind.

@@ -9,6 +9,12 @@ use Rattle.rules.specs.Test.{blocksBetween}
 use Rattle.holding.proofs.blocks_between.Statement.{statement}
 use Rattle.holding.proofs.blocks_between.Tie as tie
 
+cast-high : tie.Need-cast-high
+cast-high c = search needs
+
+cast-first : tie.Need-cast-first
+cast-first c = search needs
+
 sub-first : tie.Need-sub-first
 sub-first c = search needs
 
@@ -18,16 +24,34 @@ add-first c = search needs
 div-first : tie.Need-div-first
 div-first c = search needs
 
+cast-end : tie.Need-cast-end
+cast-end c = search needs
+
 div-end : tie.Need-div-end
 div-end c = search needs
 
+cast-result : tie.Need-cast-result
+cast-result c = let a = c .before .before .before .before .args in omega (arith, div-le-self (a .far .0) (a .block .0))
+
 returns : tie.Need-returns
 unfolding blocksBetween
-returns c = (refl, omega (arith, div-le-self (c .before .before .before .args .far .0) (c .before .before .before .args .block .0)))
+returns c = let a = c .before .before .before .before .args in (refl, omega (arith, div-le-self (a .far .0) (a .block .0)))
 
 returns-2 : tie.Need-returns-2
 unfolding blocksBetween
 returns-2 c = (omega arith, omega arith)
 
 pub blocks-between-spec : {M : Type 1} → statement M
-blocks-between-spec = tie.close (tie.spec sub-first add-first div-first div-end returns returns-2)
+blocks-between-spec =
+    tie.close
+    (tie.spec
+    cast-high
+    cast-first
+    sub-first
+    add-first
+    div-first
+    cast-end
+    div-end
+    cast-result
+    returns
+    returns-2)
