@@ -40,10 +40,12 @@ pub fn answers(requests: &[u8]) -> String {
         lines.pop();
     }
     for (i, line) in lines.iter().enumerate() {
-        let answer = if line.len() < MOST_LINE {
-            std::str::from_utf8(line).ok().and_then(|line| held.answer(line))
-        } else {
+        let answer = if line.len() >= MOST_LINE {
             None
+        } else if line.is_empty() || line.starts_with(b"#") {
+            Some(String::new())
+        } else {
+            std::str::from_utf8(line).ok().and_then(|line| held.answer(line))
         };
         match answer {
             Some(answer) if answer.is_empty() => {}
@@ -57,9 +59,6 @@ pub fn answers(requests: &[u8]) -> String {
 impl Held {
     /// The answer to one line, empty if there is none to give; or nothing, if the line is bad.
     fn answer(&mut self, line: &str) -> Option<String> {
-        if line.is_empty() || line.starts_with('#') {
-            return Some(String::new());
-        }
         let words: Vec<&str> = line.split(' ').collect();
         match words[..] {
             ["design", w, h, b, kinds, m, needs, tokens] => {

@@ -3,7 +3,8 @@
 //! `reference vectors FOLDER` runs stored cases, `reference examples` the bench examples,
 //! `reference random SEED COUNT` the services on random designs against the definitions,
 //! `reference plan` the plan program on standard input, and `reference ask` answers requests;
-//! `reference requests FILE` makes requests of stored cases.
+//! `reference requests FILE` makes requests of stored cases; `reference cases` is the plan program on
+//! many inputs, each with its length in two bytes before it.
 
 mod ask;
 mod bytes;
@@ -33,7 +34,8 @@ const USAGE: &str = "usage: reference vectors FOLDER
        reference random SEED COUNT
        reference plan < FILE
        reference ask < REQUESTS
-       reference requests FILE";
+       reference requests FILE
+       reference cases < INPUTS";
 
 fn main() -> ExitCode {
     let arguments: Vec<String> = env::args().skip(1).collect();
@@ -44,6 +46,7 @@ fn main() -> ExitCode {
         ["random", seed, count] => random_designs(seed, count),
         ["plan"] => plan_standard_input(),
         ["ask"] => ask_standard_input(),
+        ["cases"] => plan_cases(),
         ["requests", file] => ask::requests(Path::new(file)).map(|text| {
             print!("{text}");
             true
@@ -73,6 +76,19 @@ fn plan_standard_input() -> Result<bool, String> {
     let text = program::plan_program(&input);
     let mut out = io::stdout().lock();
     out.write_all(text.as_bytes()).map_err(|e| e.to_string())?;
+    Ok(true)
+}
+
+fn plan_cases() -> Result<bool, String> {
+    let mut input = Vec::new();
+    let mut stdin = io::stdin().lock();
+    stdin.read_to_end(&mut input).map_err(|e| e.to_string())?;
+    let mut rest = &input[..];
+    while let [low, high, after @ ..] = rest {
+        let long = (usize::from(*low) + 256 * usize::from(*high)).min(after.len());
+        print!("{}", program::plan_program(&after[..long]));
+        rest = &after[long..];
+    }
     Ok(true)
 }
 

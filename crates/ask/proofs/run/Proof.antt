@@ -1,0 +1,112 @@
+-- Between two lines, what is read stays inside the input's bytes, what is lent is there, and no bytes change their number. The measure
+-- is how many numbers are left for lines. Assumes nothing.
+use mathlib.Core.Path.{_≡_}
+use Prim.Native.Nat.{_-_, _≤_}
+use native.Mathlib.Omega.{arith}
+use lib.ListN.{length}
+use borrow.Author.Needs.{needs}
+use Rattle.asking.specs.Lent.{Lent}
+use Rattle.ask.specs.Reading.{Inside}
+use Rattle.ask.proofs.run.Statement.{statement}
+use Rattle.ask.proofs.run.Tie as tie
+
+abbrev Inv-loop : tie.InvT-loop
+Inv-loop input₀ work₀ rows₀ out₀ held₀ s₀ number₀ input work rows out held s number =
+    Inside s input × Lent held work rows × (number ≤ 18446744073709551615)
+    × (length input ≡ length input₀) × (length work ≡ length work₀) × (length rows ≡ length rows₀) × (length out ≡ length out₀)
+
+abbrev μ-loop : tie.MeasureT-loop
+μ-loop input₀ work₀ rows₀ out₀ held₀ s₀ number₀ input work rows out held s number = 18446744073709551615 - number
+
+nothing-held-requires : tie.Need-nothing-held-requires Inv-loop μ-loop
+nothing-held-requires c κs = search needs
+
+loop-holds : tie.Need-loop-holds Inv-loop μ-loop
+loop-holds c = search needs
+
+read-line-requires : tie.Need-read-line-requires Inv-loop μ-loop
+read-line-requires c κs = search needs
+
+is-done-requires : tie.Need-is-done-requires Inv-loop μ-loop
+is-done-requires c κs = search needs
+
+same-length : tie.Need-same-length Inv-loop μ-loop
+same-length c = search needs
+
+same-length-2 : tie.Need-same-length-2 Inv-loop μ-loop
+same-length-2 c = search needs
+
+same-length-3 : tie.Need-same-length-3 Inv-loop μ-loop
+same-length-3 c = search needs
+
+same-length-4 : tie.Need-same-length-4 Inv-loop μ-loop
+same-length-4 c = search needs
+
+returns : tie.Need-returns Inv-loop μ-loop
+returns c = search needs
+
+answer-requires : tie.Need-answer-requires Inv-loop μ-loop
+answer-requires c κs = search needs
+
+past-requires : tie.Need-past-requires Inv-loop μ-loop
+past-requires c κs = search needs
+
+add-number : tie.Need-add-number Inv-loop μ-loop
+add-number c = search needs
+
+loop-less : tie.Need-loop-less Inv-loop μ-loop
+loop-less c = search needs
+
+loop-again : tie.Need-loop-again Inv-loop μ-loop
+loop-again c =
+    let read = c .before .before .before .before .before .before .before .before .before .before .before .before .before .before .before in
+    let turn = read .before .before .before in let same = turn .before .loop .inv in (
+      omega (arith, read .before .read-line .ensures),
+      c .before .before .before .before .before .before .before .answer .ensures,
+      omega (arith, turn .loop-test .taken),
+      omega (arith, same .3, read .input .given),
+      omega (arith, same .4),
+      omega (arith, same .5),
+      omega (arith, same .6),
+    )
+
+same-length-5 : tie.Need-same-length-5 Inv-loop μ-loop
+same-length-5 c = search needs
+
+same-length-6 : tie.Need-same-length-6 Inv-loop μ-loop
+same-length-6 c = search needs
+
+same-length-7 : tie.Need-same-length-7 Inv-loop μ-loop
+same-length-7 c = search needs
+
+same-length-8 : tie.Need-same-length-8 Inv-loop μ-loop
+same-length-8 c = search needs
+
+returns-2 : tie.Need-returns-2 Inv-loop μ-loop
+returns-2 c = search needs
+
+pub run-spec : {M : Type 1} → statement M
+run-spec =
+    tie.close
+    (tie.spec
+    Inv-loop
+    μ-loop
+    nothing-held-requires
+    loop-holds
+    read-line-requires
+    is-done-requires
+    same-length
+    same-length-2
+    same-length-3
+    same-length-4
+    returns
+    answer-requires
+    past-requires
+    add-number
+    loop-less
+    loop-again
+    same-length-5
+    same-length-6
+    same-length-7
+    same-length-8
+    returns-2)
