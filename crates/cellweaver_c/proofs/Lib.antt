@@ -1,0 +1,4 @@
+-- What the proofs share.
+mod Asking
+mod Longest
+mod Editing
