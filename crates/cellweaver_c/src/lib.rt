@@ -14,7 +14,6 @@ use rules::Reply;
 use rules::Written;
 ghost use mathlib.Core.Path.{_≡_};
 ghost use Rattle.rules.specs.declared.Edit.the-variants.{Change, Turn};
-ghost use Rattle.rules.specs.Bench.{need};
 ghost use Rattle.rules.specs.Design.{LawfulDesign};
 ghost use Rattle.rules.specs.Reply.{plainly, refusal, answer, writtenAnswer};
 ghost use Rattle.cellweaver_c.specs.Asked.{AskedRead, AskedWrite, AskedList, AskedCheck, AskedEdit, EditsInto};
@@ -77,7 +76,8 @@ fn edit_into(
     if let Reply::Refused(e) = reply {
         return say_refused(e, value);
     }
-    say_written(write(handed.design, out), value)
+    let next = handed.design;
+    say_written(write(next, out), value)
 }
 
 // Reads a design and edits it.
@@ -159,7 +159,7 @@ pub extern "C" fn cellweaver_edit_need(
     out: &mut [u8],
     value: &mut usize,
 ) -> usize
-    ensures { λ r. ⌜ AskedEdit (now (bytes .entry)) (Change k (need clbs rams multipliers)) (now (work .entry)) (now (out .entry)) (plainly r (now (value .exit))) (now (work .exit)) (now (out .exit)) ⌝ }
+    ensures { λ r. ⌜ AskedEdit (now (bytes .entry)) (Change k (record { clbs = clbs; rams = rams; multipliers = multipliers })) (now (work .entry)) (now (out .entry)) (plainly r (now (value .exit))) (now (work .exit)) (now (out .exit)) ⌝ }
 {
     let need = Need {
         clbs,

@@ -54,7 +54,7 @@ same-length-3 c = search needs
 
 returns-3 : tie.Need-returns-3
 returns-3 c =
-    let w = c .before .before .before .before in let r = w .before .before in let k = r .before .before .before .before in let t = k .before .before in
+    let w = c .before .before .before .before in let r = w .before .before .before in let k = r .before .before .before .before in let t = k .before .before in
     edit-put _ _ (t .before .before .before .pre) (t .if1 .left) (k .edit2 .ensures) (r .enum-told .given .1) (w .write .ensures) (c .say-written .ensures)
 
 pub edit-into-spec : {M : Type 1} → statement M
