@@ -13,10 +13,12 @@ use Rattle.rules.specs.declared.Reply.{Reply}
 use Rattle.rules.specs.declared.Reply.the-variants.{Done, Refused}
 use Rattle.rules.specs.declared.Handed.{Handed}
 use Rattle.rules.specs.declared.Written.{Written}
+use Rattle.rules.specs.declared.Planned.{Planned}
+use Rattle.rules.specs.Chip.{shape}
 use Rattle.rules.specs.Edit.{namesPlace}
 use Rattle.rules.specs.Bytes.{Took, took, refuse, designBytes, designAt}
-use Rattle.rules.specs.Reply.{Answer, plainly, refusal, answer, writtenAnswer}
-use Rattle.rules.specs.Service.{Reads, Writes, Lists, Edits, Checks}
+use Rattle.rules.specs.Reply.{Answer, plainly, refusal, answer, writtenAnswer, plannedAnswer}
+use Rattle.rules.specs.Service.{Reads, Writes, Lists, Plans, Places, Edits, Checks}
 
 -- A refused reading is the reply, and every lent byte stands; of a design that was read, the service's part holds.
 pub record Asked (bytes : List ℕ) (reply : Answer) (Stands : Type 0) (Served : Design → Type 0) : Type 0 where
@@ -41,6 +43,20 @@ AskedWrite bytes before reply after =
 -- list
 abbrev pub AskedList : List ℕ → List ℕ → Answer → List ℕ → Type 0
 AskedList bytes before reply after = Asked bytes reply (after ≡ before) (λ d. Says {R = Reply} answer (λ r. Lists d before r after) reply)
+
+-- plan and place reply with the box too
+abbrev pub boxed : ℕ → ℕ → ℕ → ℕ → Answer
+boxed n v w h = record { number = n; value = v; box = shape w h }
+
+-- plan
+abbrev pub AskedPlan : List ℕ → List ℕ → List ℕ → Answer → List ℕ → List ℕ → Type 0
+AskedPlan bytes before rows reply after rows' =
+    Asked bytes reply ((after ≡ before) × (rows' ≡ rows)) (λ d. Says {R = Planned} plannedAnswer (λ r. Plans d before rows r after rows') reply)
+
+-- place: work is only lent to be read
+abbrev pub AskedPlace : List ℕ → List ℕ → List ℕ → Answer → List ℕ → Type 0
+AskedPlace bytes work rows reply rows' =
+    Asked bytes reply (rows' ≡ rows) (λ d. Says {R = Planned} plannedAnswer (λ r. Places d work rows r rows') reply)
 
 -- check: rows are only lent to be read
 abbrev pub AskedCheck : List ℕ → List ℕ → Answer → Type 0

@@ -3,20 +3,23 @@
 use cellweaver::check;
 use cellweaver::edit;
 use cellweaver::list;
+use cellweaver::place;
+use cellweaver::plan;
 use cellweaver::read;
 use cellweaver::write;
 use printing::number_of;
 use rules::Design;
 use rules::Edit;
 use rules::Need;
+use rules::Planned;
 use rules::Refusal;
 use rules::Reply;
 use rules::Written;
 ghost use mathlib.Core.Path.{_≡_};
 ghost use Rattle.rules.specs.declared.Edit.the-variants.{Change, Turn};
 ghost use Rattle.rules.specs.Design.{LawfulDesign};
-ghost use Rattle.rules.specs.Reply.{plainly, refusal, answer, writtenAnswer};
-ghost use Rattle.cellweaver_c.specs.Asked.{AskedRead, AskedWrite, AskedList, AskedCheck, AskedEdit, EditsInto};
+ghost use Rattle.rules.specs.Reply.{plainly, refusal, answer, writtenAnswer, plannedAnswer};
+ghost use Rattle.cellweaver_c.specs.Asked.{boxed, AskedRead, AskedWrite, AskedList, AskedPlan, AskedPlace, AskedCheck, AskedEdit, EditsInto};
 
 // The bytes of the longest lawful design: four numbers, 64 kinds, m, 16 needs of three numbers with three bytes each, 31 tokens.
 const DESIGN_ROOM: usize = 244;
@@ -54,14 +57,27 @@ fn say_written(written: Written, value: &mut usize) -> usize
     }
 }
 
+// The number of what plan and place answer, the box and the value.
+fn say_planned(planned: Planned, width: &mut usize, height: &mut usize, value: &mut usize) -> usize
+    ensures { λ r. ⌜ boxed r (now (value .exit)) (now (width .exit)) (now (height .exit)) ≡ plannedAnswer planned ⌝ }
+{
+    match planned {
+        Planned::Box(s) => {
+            *width = s.w.0;
+            *height = s.h.0;
+            *value = 0;
+            0
+        }
+        Planned::Refused(e) => {
+            *width = 0;
+            *height = 0;
+            say_refused(e, value)
+        }
+    }
+}
+
 // Edits a lawful design, and puts the bytes of the one that is handed back. Where `out` is too short no work is lent: that is 11 or 8.
-fn edit_into(
-    design: Design,
-    change: Edit,
-    work: &mut [u8],
-    out: &mut [u8],
-    value: &mut usize,
-) -> usize
+fn edit_into(design: Design, change: Edit, work: &mut [u8], out: &mut [u8], value: &mut usize) -> usize
     requires { ⌜ LawfulDesign design ⌝ }
     ensures { λ r. ⌜ EditsInto design change (now (work .entry)) (now (out .entry)) (plainly r (now (value .exit))) (now (work .exit)) (now (out .exit)) ⌝ }
 {
@@ -81,13 +97,7 @@ fn edit_into(
 }
 
 // Reads a design and edits it.
-fn edit_bytes(
-    bytes: &[u8],
-    change: Edit,
-    work: &mut [u8],
-    out: &mut [u8],
-    value: &mut usize,
-) -> usize
+fn edit_bytes(bytes: &[u8], change: Edit, work: &mut [u8], out: &mut [u8], value: &mut usize) -> usize
     ensures { λ r. ⌜ AskedEdit (now (bytes .entry)) change (now (work .entry)) (now (out .entry)) (plainly r (now (value .exit))) (now (work .exit)) (now (out .exit)) ⌝ }
 {
     let handed = read(bytes);
@@ -132,6 +142,46 @@ pub extern "C" fn cellweaver_list(bytes: &[u8], work: &mut [u8], value: &mut usi
         return say_refused(e, value);
     }
     say(list(handed.design, work), value)
+}
+
+// Lists, then places.
+#[no_mangle]
+pub extern "C" fn cellweaver_plan(
+    bytes: &[u8],
+    work: &mut [u8],
+    rows: &mut [u8],
+    width: &mut usize,
+    height: &mut usize,
+    value: &mut usize,
+) -> usize
+    ensures { λ r. ⌜ AskedPlan (now (bytes .entry)) (now (work .entry)) (now (rows .entry)) (boxed r (now (value .exit)) (now (width .exit)) (now (height .exit))) (now (work .exit)) (now (rows .exit)) ⌝ }
+{
+    let handed = read(bytes);
+    let reply = handed.reply;
+    if let Reply::Refused(e) = reply {
+        return say_planned(Planned::Refused(e), width, height, value);
+    }
+    say_planned(plan(handed.design, work, rows), width, height, value)
+}
+
+// Places from lists that are filled already.
+#[no_mangle]
+pub extern "C" fn cellweaver_place(
+    bytes: &[u8],
+    work: &[u8],
+    rows: &mut [u8],
+    width: &mut usize,
+    height: &mut usize,
+    value: &mut usize,
+) -> usize
+    ensures { λ r. ⌜ AskedPlace (now (bytes .entry)) (now (work .entry)) (now (rows .entry)) (boxed r (now (value .exit)) (now (width .exit)) (now (height .exit))) (now (rows .exit)) ⌝ }
+{
+    let handed = read(bytes);
+    let reply = handed.reply;
+    if let Reply::Refused(e) = reply {
+        return say_planned(Planned::Refused(e), width, height, value);
+    }
+    say_planned(place(handed.design, work, rows), width, height, value)
 }
 
 // Judges a floorplan.
