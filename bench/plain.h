@@ -1,0 +1,37 @@
+// A planner in plain C, written from document 01, for the bench to compare with. Nothing in it is proved.
+#include <stddef.h>
+
+enum { MOST_COLUMNS = 64, MOST_ROWS = 64, MOST_MODULES = 16, MOST_TOKENS = 2 * MOST_MODULES - 1, MOST_NUMBER = 65535 };
+
+typedef unsigned char byte;
+
+struct need {
+    int clbs, rams, multipliers;
+};
+
+struct design {
+    int width, height, block;
+    byte kinds[MOST_COLUMNS];
+    int modules;
+    struct need needs[MOST_MODULES];
+    byte tokens[MOST_TOKENS];
+};
+
+// How a cut's slots are made: by every pair of stored shapes at each corner, or by running minima over rows of heights.
+enum way { BY_PAIRS, BY_ROWS };
+
+struct answer {
+    int number;    // 01's number of the reply
+    size_t beside; // the position of a refusal of reading, the count of bytes written
+};
+
+struct box {
+    int number, w, h;
+};
+
+size_t work_needed(const struct design *d);
+struct answer plain_read(const byte *bytes, size_t length, struct design *d);
+struct answer plain_write(const struct design *d, byte *out, size_t room);
+int plain_list(const struct design *d, enum way way, byte *work, size_t room);
+int plain_edit(struct design *d, int module, struct need need, enum way way, byte *work, size_t room);
+struct box plain_plan(const struct design *d, enum way way, byte *work, size_t room, byte *rows, size_t rows_room);
