@@ -77,7 +77,13 @@ fn say_planned(planned: Planned, width: &mut usize, height: &mut usize, value: &
 }
 
 // Edits a lawful design, and puts the bytes of the one that is handed back. Where `out` is too short no work is lent: that is 11 or 8.
-fn edit_into(design: Design, change: Edit, work: &mut [u8], out: &mut [u8], value: &mut usize) -> usize
+fn edit_into(
+    design: Design,
+    change: Edit,
+    work: &mut [u8],
+    out: &mut [u8],
+    value: &mut usize,
+) -> usize
     requires { ⌜ LawfulDesign design ⌝ }
     ensures { λ r. ⌜ EditsInto design change (now (work .entry)) (now (out .entry)) (plainly r (now (value .exit))) (now (work .exit)) (now (out .exit)) ⌝ }
 {
@@ -97,7 +103,13 @@ fn edit_into(design: Design, change: Edit, work: &mut [u8], out: &mut [u8], valu
 }
 
 // Reads a design and edits it.
-fn edit_bytes(bytes: &[u8], change: Edit, work: &mut [u8], out: &mut [u8], value: &mut usize) -> usize
+fn edit_bytes(
+    bytes: &[u8],
+    change: Edit,
+    work: &mut [u8],
+    out: &mut [u8],
+    value: &mut usize,
+) -> usize
     ensures { λ r. ⌜ AskedEdit (now (bytes .entry)) change (now (work .entry)) (now (out .entry)) (plainly r (now (value .exit))) (now (work .exit)) (now (out .exit)) ⌝ }
 {
     let handed = read(bytes);
