@@ -18,7 +18,7 @@ const MOST_LINE: usize = 16_384;
 const MOST_WORK: usize = 2_097_152;
 const MOST_ROWS: usize = 1_024;
 const MOST_WRITTEN: usize = 4_096;
-const MOST_READ: usize = 4_096;
+const MOST_READ: usize = 8_192;
 
 /// What is held between requests.
 struct Held {

@@ -28,8 +28,10 @@ ghost use mathlib.Core.Path.{_≡_};
 ghost use lib.ListN.{length};
 ghost use Rattle.asking.specs.Lent.{Lent, Keeps};
 
-// The most bytes that a `read` or a `write` has.
-const MOST_BYTES: usize = 4096;
+// The most bytes that a `write` has, and more than a line's `read` can have.
+const MOST_WRITTEN: usize = 4096;
+
+const MOST_READ: usize = 8192;
 
 // What is held between requests: a design, and how many bytes of work and of rows are lent.
 pub struct Held {
@@ -175,10 +177,10 @@ fn read(line: &[u8], held: Held, out: &mut [u8]) -> Served
     let Number::Value(n) = bytes_in(word(line, 1)) else {
         return silent(false, held);
     };
-    if n > MOST_BYTES {
+    if n > MOST_READ {
         return silent(false, held);
     }
-    let mut bytes = [0u8; MOST_BYTES];
+    let mut bytes = [0u8; MOST_READ];
     put_bytes(word(line, 1), &mut bytes);
     let answer = answers::read(&bytes[0..n], out);
     answered(with_design(held, answer.design), answer.length)
@@ -188,13 +190,13 @@ fn read(line: &[u8], held: Held, out: &mut [u8]) -> Served
 fn write(line: &[u8], held: Held, out: &mut [u8]) -> Served
     ensures { λ r. ⌜ Keeps held (r .held) × (r .length ≤ length (now (out .exit))) ⌝ }
 {
-    let lending = lending_in(line, MOST_BYTES);
+    let lending = lending_in(line, MOST_WRITTEN);
     if !lending.good {
         return silent(false, held);
     }
     let n = lending.n;
     let fill = lending.fill;
-    let mut bytes = [fill; MOST_BYTES];
+    let mut bytes = [fill; MOST_WRITTEN];
     let design = held.design;
     answered(held, answers::write(design, &mut bytes[0..n], out))
 }
