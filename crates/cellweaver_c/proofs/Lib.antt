@@ -2,3 +2,4 @@
 mod Asking
 mod Longest
 mod Editing
+mod Once
