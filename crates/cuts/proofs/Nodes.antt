@@ -10,8 +10,7 @@ use native.Mathlib.Decide.{ℕ-discrete}
 use Rattle.rules.specs.declared.Direction.{Direction}
 use Rattle.rules.specs.declared.Direction.the-variants.{Vertical, Horizontal}
 use Rattle.rules.specs.declared.Corner.{Corner}
-use Rattle.rules.specs.Slot.{slot, slotStart, CornerOn, IsListOf}
-use Rattle.rules.specs.Edit.{Paired}
+use Rattle.rules.specs.Slot.{slot, slotStart, CornerOn}
 use Rattle.rules.specs.Test.{across}
 use Rattle.rules.proofs.Searching.{know, test-iffs}
 use Rattle.rules.proofs.Working.{slots-apart}
@@ -142,11 +141,3 @@ module _ (d : Direction) (W H t left right : ℕ) (start : List ℕ) where
 
   pub lines-done : {after : List ℕ} → PartIs W H t slots (beforeLine d (across d H W)) start after → NodeIs W H t slots start after
   lines-done {after} p = all-done W H t slots (beforeLine d (across d H W)) start after (λ c o. simp test-iffs (on-line d W H c o .0)) p
-
--- what a cut node's slots then are in 01's words: lists of the undominated pairings of its children's stored shapes, whatever the bytes
-pub node-paired : (d : Direction) (W H t left right : ℕ) (before after : List ℕ) → NodeIs W H t (pairedSlot d W H before left right) before after
-    → (c : Corner) → CornerOn W H c → IsListOf W (slot W H after t c) (Paired W H d (slot W H before left) (slot W H before right) c)
-unfolding pairedSlot
-node-paired d W H t left right before after z c on =
-    same-list W (pairedSlot d W H before left right c) (slot W H after t c) (λ j h. sym (z .inside c on j h)) (λ s. (λ p. p, λ p. p))
-    (pairings-bytes W H d (slot W H before left) (slot W H before right) c)

@@ -7,26 +7,12 @@ use native.Mathlib.Omega.{arith}
 use native.Mathlib.Nat.{mul-le-mul-right}
 use lib.ListN.{length}
 use Rattle.rules.specs.declared.Corner.{Corner}
-use Rattle.rules.specs.declared.Design.{Design}
 use Rattle.rules.specs.Chip.{corner}
-use Rattle.rules.specs.Slot.{slot, slotStart, workNeeded, CornerOn}
-use Rattle.rules.specs.Design.{nodes, inRange, withinLimits, LawfulDesign}
+use Rattle.rules.specs.Slot.{slot, slotStart, CornerOn}
+use Rattle.rules.specs.Design.{nodes}
 use Rattle.rules.specs.Test.{isStair}
-use Rattle.rules.proofs.Searching.{test-iffs}
-use Rattle.rules.proofs.Nodes.{lawful-tree}
 use Rattle.rules.proofs.Working.{slot-within}
 use Rattle.stairs.specs.Walk.{Room, bytesFrom}
-
--- a lawful design is within the limits
-pub lawful-room : (d : Design) (work : List ℕ) → LawfulDesign d → workNeeded (d .width .0) (d .height .0) (nodes d) ≤ length work
-    → Room (d .width .0) (d .height .0) (nodes d) work
-unfolding withinLimits inRange
-lawful-room d work lawful h = let s = simp test-iffs at (lawful-tree d lawful .limits) in record {
-  columns = omega arith;
-  rows = omega arith;
-  few = omega arith;
-  bytes = h;
-}
 
 pub node-room : {W H n t : ℕ} {work : List ℕ} → Room W H n work → t < n → Room W H (suc t) work
 node-room {W} {H} {n} {t} r h =

@@ -3,4 +3,3 @@ pub mod Arrays
 pub mod Seeking
 pub mod Lefts
 pub mod Ways
-pub mod Places
