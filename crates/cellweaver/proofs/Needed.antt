@@ -11,7 +11,7 @@ use Rattle.rules.specs.declared.Edit.{Edit}
 use Rattle.rules.specs.Design.{LawfulDesign, nodes, slotsOf, AllStairs}
 use Rattle.rules.specs.Edit.{namesPlace, changed}
 use Rattle.rules.specs.Service.{workOf}
-use Rattle.rules.specs.Test.{areStairs}
+use Rattle.rules.proofs.Test.{areStairs}
 use Rattle.rules.proofs.Searching.{absurd-so}
 use Rattle.rules.proofs.Limits.{limits}
 use Rattle.rules.proofs.Stairs.{stairs-iff}

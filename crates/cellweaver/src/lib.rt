@@ -25,7 +25,7 @@ ghost use lib.ListN.{length};
 ghost use Rattle.rules.specs.Design.{LawfulDesign, nodes, slotsOf};
 ghost use Rattle.rules.specs.Service.{workOf, rowsOf, Reads, Writes, Lists, Plans, Places, Edits, Checks};
 ghost use Rattle.rules.specs.declared.Reply.the-variants.{Refused};
-ghost use Rattle.rules.specs.Test.{areStairs};
+ghost use Rattle.rules.proofs.Test.{areStairs};
 
 // The work bytes that a lawful design's lists take.
 fn work_needed(design: Design) -> usize

@@ -11,7 +11,7 @@ use Rattle.rules.specs.declared.Token.the-variants.{Cut, Module, Beyond}
 use Rattle.rules.specs.Chip.{corner, left, right, bottom, top}
 use Rattle.rules.specs.Placement.{Placement}
 use Rattle.rules.specs.Design.{mostModules}
-use Rattle.rules.specs.Test.{across}
+use Rattle.rules.proofs.Test.{across}
 use Rattle.checker.specs.declared.Extent.{Extent}
 use Rattle.checker.specs.declared.Pass.{Pass}
 

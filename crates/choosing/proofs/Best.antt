@@ -16,7 +16,7 @@ use Rattle.rules.specs.Chip.{shape}
 use Rattle.rules.specs.Placement.{area}
 use Rattle.rules.specs.Slot.{slot, slotStart, workNeeded, Empty}
 use Rattle.rules.specs.Choice.{Chosen}
-use Rattle.rules.specs.Test.{onlyIf, better, bestWidth}
+use Rattle.rules.proofs.Test.{onlyIf, better, bestWidth}
 use Rattle.rules.proofs.Choosing.{chooses-none, chooses-this}
 use Rattle.rules.proofs.Working.{slot-within}
 use Rattle.slots.specs.declared.Board.{Board}

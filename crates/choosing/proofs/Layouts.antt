@@ -20,7 +20,7 @@ use Rattle.rules.specs.Chip.{corner}
 use Rattle.rules.specs.Tree.{Tree, leaf, cut, position, has, stands}
 use Rattle.rules.specs.Choice.{beside}
 use Rattle.rules.specs.Design.{mostModules, nodes, root, LawfulDesign}
-use Rattle.rules.specs.Test.{leftShape, rightShape, hasPair, goesDown, laid}
+use Rattle.rules.proofs.Test.{leftShape, rightShape, hasPair, goesDown, laid}
 use Rattle.rules.proofs.Searching.{absurd-so, and-iff, or-iff, eqb-iff, same-test}
 use Rattle.rules.proofs.Standing.{Once, Part, whole, in-left, in-right, Among, here, there, Reading, none-read, module-read, cut-read, last-is, last-position}
 use Rattle.rules.proofs.Nodes.{modules-within, lawful-tree}

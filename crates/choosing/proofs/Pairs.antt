@@ -17,7 +17,7 @@ use Rattle.rules.specs.Search.{any, least}
 use Rattle.rules.specs.Slot.{slot, slotStart, CornerOn}
 use Rattle.rules.specs.Choice as choice
 use Rattle.rules.specs.Choice.{beside}
-use Rattle.rules.specs.Test.{meets, leftIndex, leftShape, rightIndex, rightShape, hasPair}
+use Rattle.rules.proofs.Test.{meets, leftIndex, leftShape, rightIndex, rightShape, hasPair}
 use Rattle.rules.proofs.Searching.{absurd-so, any-iff, least-is, least-found}
 use Rattle.rules.proofs.Choosing.{pair-found, takes}
 use Rattle.slots.specs.declared.Board.{Board}

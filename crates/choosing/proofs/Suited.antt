@@ -14,7 +14,7 @@ use Rattle.rules.specs.Tree.{Tree, leaf, cut, position, has}
 use Rattle.rules.specs.Placement.{Placement}
 use Rattle.rules.specs.Choice.{beside}
 use Rattle.rules.specs.Design.{root, LawfulDesign}
-use Rattle.rules.specs.Test.{leftShape, rightShape, hasPair, merge, goesDown, laid}
+use Rattle.rules.proofs.Test.{leftShape, rightShape, hasPair, merge, goesDown, laid}
 use Rattle.rules.proofs.Searching.{and-iff, or-iff, eqb-iff, all-iff, same-test}
 use Rattle.rules.proofs.Standing.{Once}
 use Rattle.rules.proofs.Nodes.{lawful-tree}

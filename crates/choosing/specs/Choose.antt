@@ -12,7 +12,7 @@ use Rattle.rules.specs.Placement.{area}
 use Rattle.rules.specs.Slot.{slot, workNeeded, CornerOn}
 use Rattle.rules.specs.Choice.{beside, pairing}
 use Rattle.rules.specs.Design.{mostColumns, mostRows, mostModules}
-use Rattle.rules.specs.Test.{onlyIf, bestWidth, leftShape, rightShape, hasPair}
+use Rattle.rules.proofs.Test.{onlyIf, bestWidth, leftShape, rightShape, hasPair}
 use Rattle.slots.specs.declared.Board.{Board}
 use Rattle.choosing.specs.declared.Pair.{Pair}
 use Rattle.choosing.specs.declared.Pair.the-variants.{Taken, None}

@@ -16,7 +16,7 @@ use Rattle.rules.specs.Chip.{corner, rectangle}
 use Rattle.rules.specs.Tree.{Tree, cut, position, tokenOf}
 use Rattle.rules.specs.Choice.{beside}
 use Rattle.rules.specs.Design.{mostModules, nodes, nodeAt, root, LawfulDesign}
-use Rattle.rules.specs.Test.{goesDown, laid}
+use Rattle.rules.proofs.Test.{goesDown, laid}
 use Rattle.slots.specs.declared.Board.{Board}
 use Rattle.choosing.specs.declared.Pair.{Pair}
 use Rattle.choosing.specs.declared.Pair.the-variants.{Taken, None}

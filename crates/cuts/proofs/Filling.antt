@@ -13,7 +13,7 @@ use Rattle.rules.specs.declared.Direction.the-variants.{Vertical, Horizontal}
 use Rattle.rules.specs.declared.Corner.{Corner}
 use Rattle.rules.specs.Design.{mostColumns}
 use Rattle.rules.specs.Slot.{slot, slotStart}
-use Rattle.rules.specs.Test.{across}
+use Rattle.rules.proofs.Test.{across}
 use Rattle.rules.proofs.Working.{slot-within}
 use Rattle.slots.specs.declared.Board.{Board}
 use Rattle.slots.specs.Written.{Filled}

@@ -15,7 +15,7 @@ use Rattle.rules.specs.declared.Direction.the-variants.{Vertical, Horizontal}
 use Rattle.rules.specs.declared.Corner.{Corner}
 use Rattle.rules.specs.Design.{mostColumns, mostRows}
 use Rattle.rules.specs.Slot.{slot, slotStart}
-use Rattle.rules.specs.Test.{across, onlyIf}
+use Rattle.rules.proofs.Test.{across, onlyIf}
 use Rattle.slots.specs.declared.Board.{Board}
 use Rattle.cuts.specs.Cut.{rowSize, Roomy, topsSize, slotsOn, OnBoard, places, lowered, leastOf, heldTop, TailsNone, hasBox, greaterTop, boxTop, leastTop, TopsAre, Pairable, laidTop, Laid}
 use Rattle.cuts.proofs.Least.{lowered-none, lowered-some, least-start}

@@ -11,7 +11,7 @@ use Rattle.rules.specs.declared.Direction.{Direction}
 use Rattle.rules.specs.declared.Direction.the-variants.{Vertical, Horizontal}
 use Rattle.rules.specs.declared.Corner.{Corner}
 use Rattle.rules.specs.Slot.{slot, slotStart, CornerOn}
-use Rattle.rules.specs.Test.{across}
+use Rattle.rules.proofs.Test.{across}
 use Rattle.rules.proofs.Searching.{know, test-iffs}
 use Rattle.rules.proofs.Working.{slots-apart}
 use Rattle.rules.proofs.Listing.{same-list, list-unique}

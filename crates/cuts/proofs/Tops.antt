@@ -10,7 +10,7 @@ use Rattle.rules.specs.declared.Direction.{Direction}
 use Rattle.rules.specs.declared.Direction.the-variants.{Vertical, Horizontal}
 use Rattle.rules.specs.declared.Corner.{Corner}
 use Rattle.rules.specs.Search.{least}
-use Rattle.rules.specs.Test.{Grid, grid, across, onlyIf, lowest, listByte, stored, sideBySide, pairTest}
+use Rattle.rules.proofs.Test.{Grid, grid, across, onlyIf, lowest, listByte, stored, sideBySide, pairTest}
 use Rattle.rules.proofs.Searching.{search-iffs, test-iffs, Least, least-is}
 use Rattle.slots.specs.declared.Board.{Board}
 use Rattle.cuts.specs.Cut.{lineOf, places, slotTop, lineTop, heldTop, LineFilled, hasBox, greaterTop, boxTop, leastTop, keptByte, laidSlot}

@@ -13,7 +13,7 @@ use Rattle.rules.specs.declared.Corner.{Corner}
 use Rattle.rules.specs.Chip.{corner}
 use Rattle.rules.specs.Slot.{slot, workNeeded, CornerOn}
 use Rattle.rules.specs.Design.{mostColumns, mostRows}
-use Rattle.rules.specs.Test.{grid, across, onlyIf, listByte, pairTest}
+use Rattle.rules.proofs.Test.{grid, across, onlyIf, listByte, pairTest}
 use Rattle.slots.specs.declared.Board.{Board}
 
 -- what a node's slots ask of the chip's size and of the lent bytes

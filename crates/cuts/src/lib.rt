@@ -12,7 +12,7 @@ ghost use mathlib.Core.Path.{_≡_};
 ghost use Prim.Native.Nat.{ℕ, suc, _+_, _-_, _*_, _≤_, _<_, min, max};
 ghost use lib.ListN.{length, getD};
 ghost use Rattle.rules.specs.Design.{mostColumns};
-ghost use Rattle.rules.specs.Test.{across};
+ghost use Rattle.rules.proofs.Test.{across};
 ghost use Rattle.slots.specs.Written.{Filled, SlotIs, PartIs, NodeIs};
 ghost use Rattle.cuts.specs.Cut.{Roomy, Cuttable, pairedSlot, chunk, rowSize, lineSize, topsSize, slotsOn, OnBoard, cornerAt, lines, places, lowered, leastOf, slotTop, bytesFrom, heldTop, TailsNone, LineFilled, boxTop, leastTop, keptByte, laidSlot, TopsAre, Pairable, laidTop, Laid, onLine};
 

@@ -12,7 +12,7 @@ use Rattle.rules.specs.declared.Design.{Design}
 use Rattle.rules.specs.Search.{count}
 use Rattle.rules.specs.Chip.{OnChip, heldBetween, holds, left, right, bottom, top}
 use Rattle.rules.specs.Design.{mostColumns, mostRows, noNeed, kindAt, chipOf, LawfulDesign}
-use Rattle.rules.specs.Test.{onlyIf, blocksBetween, blocksOf}
+use Rattle.rules.proofs.Test.{onlyIf, blocksBetween, blocksOf}
 use Rattle.rules.proofs.Limits.{limits}
 use Rattle.rules.proofs.Blocks.{columnsOf, columns-most, held-is}
 use Rattle.holding.specs.Held.{EachUpTo, withColumn}

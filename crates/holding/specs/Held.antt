@@ -2,7 +2,7 @@
 use Prim.Native.Nat.{ℕ, _+_, _≤_}
 use lib.Dec.{eqb}
 use Rattle.rules.specs.declared.Need.{Need}
-use Rattle.rules.specs.Test.{onlyIf}
+use Rattle.rules.proofs.Test.{onlyIf}
 
 -- at most so many of each kind
 pub record EachUpTo (most : ℕ) (n : Need) : Type 0 where

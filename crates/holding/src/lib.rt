@@ -8,7 +8,7 @@ ghost use Prim.Native.Nat.{_*_, _≤_, _<_};
 ghost use Rattle.rules.specs.Chip.{OnChip, holds};
 ghost use Rattle.rules.specs.Design.{mostColumns, mostRows, chipOf, LawfulDesign};
 ghost use Rattle.rules.specs.Check.{isAtMost, isSuited};
-ghost use Rattle.rules.specs.Test.{blocksBetween};
+ghost use Rattle.rules.proofs.Test.{blocksBetween};
 ghost use Rattle.holding.specs.Held.{EachUpTo, withColumn};
 
 // How many blocks stand whole in the rows from low to before far, where each is so many rows high.

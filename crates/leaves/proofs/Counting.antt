@@ -12,7 +12,7 @@ use borrow.Author.Tests.{lt-ltb, le-leb}
 use Rattle.rules.specs.declared.Need.{Need}
 use Rattle.rules.specs.declared.Design.{Design}
 use Rattle.rules.specs.Search.{count}
-use Rattle.rules.specs.Test.{suitsRoom}
+use Rattle.rules.proofs.Test.{suitsRoom}
 use Rattle.rules.specs.Design.{chipOf}
 use Rattle.rules.proofs.Blocks.{columnsOf, columns-most, held-is}
 use Rattle.leaves.specs.declared.ByKind.{ByKind}

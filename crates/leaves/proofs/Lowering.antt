@@ -7,7 +7,7 @@ use Prim.Native.Nat.{ℕ, suc, _+_, _-_, _≤_, _<_}
 use native.Mathlib.Omega.{arith}
 use native.Mathlib.Nat.{le-refl, le-antisymm}
 use native.Mathlib.Decide.{decLe, decLt}
-use Rattle.rules.specs.Test.{Test, lowest}
+use Rattle.rules.proofs.Test.{Test, lowest}
 use Rattle.rules.proofs.Searching.{least-is}
 use Rattle.rules.proofs.Rooms.{Rising}
 use Rattle.leaves.specs.Leaf.{StopsAt}

@@ -17,7 +17,7 @@ use Rattle.rules.specs.declared.Corner.{Corner}
 use Rattle.rules.specs.declared.Need.{Need}
 use Rattle.rules.specs.Design.{mostColumns}
 use Rattle.rules.specs.Slot.{slotStart}
-use Rattle.rules.specs.Test.{onlyIf, listByte}
+use Rattle.rules.proofs.Test.{onlyIf, listByte}
 use Rattle.rules.proofs.Rooms.{Rising, rising}
 use Rattle.rules.proofs.Suiting.{suits-growing}
 use Rattle.slots.specs.declared.Board.{Board}

@@ -11,7 +11,7 @@ use Rattle.rules.specs.declared.Need.{Need}
 use Rattle.rules.specs.Chip.{Chip, columnOf}
 use Rattle.rules.specs.Design.{mostColumns, mostRows}
 use Rattle.rules.specs.Slot.{slotStart, CornerOn}
-use Rattle.rules.specs.Test.{Test, onlyIf, blocksOf, lowest, listByte, suitsRoom}
+use Rattle.rules.proofs.Test.{Test, onlyIf, blocksOf, lowest, listByte, suitsRoom}
 use Rattle.slots.specs.declared.Board.{Board}
 use Rattle.leaves.specs.declared.ByKind.{ByKind}
 

@@ -12,7 +12,7 @@ use Rattle.rules.specs.declared.Token.the-variants.{Cut, Module, Beyond}
 use Rattle.rules.specs.Tree.{Tree, leaf, cut, position}
 use Rattle.rules.specs.Design.{mostColumns, needAt, tokenAt, nodeAt, nodes, slotsOf}
 use Rattle.rules.specs.Slot.{workNeeded}
-use Rattle.rules.specs.Test.{fits}
+use Rattle.rules.proofs.Test.{fits}
 use Rattle.rules.proofs.Standing.{Node, is-leaf, is-cut, Children, node-module}
 use Rattle.rules.proofs.Nodes.{node-at}
 use Rattle.rules.proofs.Limits.{limits}

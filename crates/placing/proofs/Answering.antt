@@ -18,7 +18,7 @@ use Rattle.rules.specs.Choice.{Chosen, rowsOut}
 use Rattle.rules.specs.Design.{mostColumns, mostRows, nodes, root, slotsOf, rootSlot, SuitsOf, GoesDown}
 use Rattle.rules.specs.Check.{isSuited}
 use Rattle.rules.specs.Service.{Enough}
-use Rattle.rules.specs.Test.{laid}
+use Rattle.rules.proofs.Test.{laid}
 use Rattle.rules.proofs.Searching.{absurd-so}
 use Rattle.rules.proofs.Nodes.{lawful-tree}
 use Rattle.rules.proofs.Limits.{limits}

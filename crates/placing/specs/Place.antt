@@ -18,7 +18,7 @@ use Rattle.rules.specs.Choice.{Chosen, rowsOut}
 use Rattle.rules.specs.Design.{root, LawfulDesign, slotsOf, AllStairs, rootSlot, GoesDown}
 use Rattle.rules.specs.Check.{isSuited}
 use Rattle.rules.specs.Service.{workOf, rowsOf}
-use Rattle.rules.specs.Test.{goesDown, laid}
+use Rattle.rules.proofs.Test.{goesDown, laid}
 use Rattle.choosing.specs.declared.Layout.{Layout}
 use Rattle.choosing.specs.Descend.{placeOf}
 

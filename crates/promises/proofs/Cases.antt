@@ -21,7 +21,7 @@ use Rattle.rules.specs.Choice.{Chosen}
 use Rattle.rules.specs.Design.{valueTest, LawfulDesign, nodes, root, SuitsOf, slotsOf, AllStairs, rootSlot, GoesDown}
 use Rattle.rules.specs.Edit.{namesPlace}
 use Rattle.rules.specs.Check.{isSuited}
-use Rattle.rules.specs.Test.{goesDown}
+use Rattle.rules.proofs.Test.{goesDown}
 use Rattle.rules.specs.Service.{Enough, workOf, rowsOf}
 use Rattle.rules.proofs.Searching.{know}
 use Rattle.rules.proofs.Nodes.{lawful-tree}

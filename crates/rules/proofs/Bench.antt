@@ -19,7 +19,7 @@ use Rattle.rules.specs.Tree.{Tree, leaf, cut, position}
 use Rattle.rules.specs.Slot.{Stores, ListsAt, CornerOn}
 use Rattle.rules.specs.Design.{nodes, nodeAt, root, rootSlot, SuitsOf, OwnLists}
 use Rattle.rules.specs.Check.{isSuited}
-use Rattle.rules.specs.Test.{stored}
+use Rattle.rules.proofs.Test.{stored}
 use Rattle.rules.specs.Bench.{Example, lists, contains, slotIs, pairsTo, plansTo, hasNone, reads, OneOf, PairsTo, Says, AllSay, table}
 use Rattle.rules.proofs.Searching.{test-iffs}
 use Rattle.rules.proofs.Standing.{Part}
@@ -31,7 +31,7 @@ use Rattle.rules.proofs.Agreeing.{Agree, agree-back, chosen-agree, pair
 use Rattle.rules.proofs.Descending.{down-laid}
 use Rattle.rules.proofs.Choosing.{chooses-none, chooses-this}
 use Rattle.rules.proofs.Floorplans.{goes-down, no-placement, corner-zero, suited-decides}
-use Rattle.rules.specs.Figures.{widthsRise, tab, pick, bytesOf, leafTest, treeList, pairedList, computed, Pairs, Computes, AllCompute, table-computes}
+use Rattle.rules.proofs.Figures.{widthsRise, tab, pick, bytesOf, leafTest, treeList, pairedList, computed, Pairs, Computes, AllCompute, table-computes}
 
 -- the list of a function's values
 length-tab : {A : Type 0} (n : ℕ) (f : ℕ → A) → length (tab n f) ≡ n

@@ -10,7 +10,7 @@ use native.Mathlib.Decide.{decLe, decLt}
 use lib.Dec.{leb, ltb, eqb}
 use Rattle.rules.specs.Search.{count, total}
 use Rattle.rules.specs.Chip.{Chip, Column, columnOf, coversBlock, heldBetween}
-use Rattle.rules.specs.Test.{blocksBetween, blocksOf}
+use Rattle.rules.proofs.Test.{blocksBetween, blocksOf}
 use Rattle.rules.proofs.Searching.{know, eqb-iff, test-iffs, count-yes, count-no, count-le, count-most, total-yes, total-no}
 
 -- of the first n numbers, those from lo to before hi

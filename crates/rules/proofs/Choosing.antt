@@ -16,7 +16,7 @@ use Rattle.rules.specs.Search.{any, least}
 use Rattle.rules.specs.Chip.{shape}
 use Rattle.rules.specs.Slot.{Empty, Stores}
 use Rattle.rules.specs.Choice.{Chosen, Pair, Taken, beside}
-use Rattle.rules.specs.Test.{better, bestWidth, meets, leftIndex, leftShape, rightIndex, rightShape, hasPair}
+use Rattle.rules.proofs.Test.{better, bestWidth, meets, leftIndex, leftShape, rightIndex, rightShape, hasPair}
 use Rattle.rules.proofs.Searching.{test-iffs, any-iff, least-is, least-found}
 use Rattle.rules.proofs.Listing.{same-shape}
 

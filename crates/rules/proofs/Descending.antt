@@ -19,7 +19,7 @@ use Rattle.rules.specs.Placement.{Placement, Follows}
 use Rattle.rules.specs.Shape.{Realizes, Listed}
 use Rattle.rules.specs.Slot.{Stores, CornerOn, Stair, ListsAt}
 use Rattle.rules.specs.Choice.{Down, beside, pairing}
-use Rattle.rules.specs.Test.{Test, leftShape, rightShape, hasPair, goesDown, laid, merge}
+use Rattle.rules.proofs.Test.{Test, leftShape, rightShape, hasPair, goesDown, laid, merge}
 use Rattle.rules.proofs.Searching.{or-iff, and-iff}
 use Rattle.rules.proofs.Fitting.{Decides}
 use Rattle.rules.proofs.Standing.{Once, Part, whole, in-left, in-right}

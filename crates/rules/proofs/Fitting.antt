@@ -14,7 +14,7 @@ use Rattle.rules.specs.Chip.{OnChip, rectangle, left, right, bottom, top
 use Rattle.rules.specs.Tree.{Tree, leaf, cut}
 use Rattle.rules.specs.Placement.{begins, ends}
 use Rattle.rules.specs.Shape.{Realizes, bounding}
-use Rattle.rules.specs.Test.{Test, parted, fits, room}
+use Rattle.rules.proofs.Test.{Test, parted, fits, room}
 use Rattle.rules.proofs.Rooms.{Growing, turn-growing, parted-in, joined, joined-growing, joined-out}
 
 -- two rectangles with the same sides are the same

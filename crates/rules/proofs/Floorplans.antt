@@ -17,7 +17,7 @@ use Rattle.rules.specs.Slot.{Empty, Stores, CornerOn, Stair, ListsAt}
 use Rattle.rules.specs.Choice.{Chosen}
 use Rattle.rules.specs.Design.{LawfulDesign, LawfulPlacement, AllStairs, OwnLists, rootSlot, GoesDown, SuitsOf, chipOf, needAt, nodeAt, nodes, root, inRange, withinLimits}
 use Rattle.rules.specs.Check.{isSuited}
-use Rattle.rules.specs.Test.{goesDown, laid}
+use Rattle.rules.proofs.Test.{goesDown, laid}
 use Rattle.rules.proofs.Searching.{test-iffs}
 use Rattle.rules.proofs.Nodes.{lawful-tree, root-position, node-at, by-nodes}
 use Rattle.rules.proofs.Standing.{whole, node-position}

@@ -1,4 +1,5 @@
 -- What follows from the rules. A reader who trusts the checker need not read further than the statements.
+pub mod Test
 pub mod Searching
 pub mod Testing
 pub mod Standing
@@ -26,4 +27,5 @@ pub mod Changing
 pub mod Relisting
 pub mod Working
 pub mod Stairs
+pub mod Figures
 pub mod Bench

@@ -17,7 +17,7 @@ use Rattle.rules.specs.Chip.{shape}
 use Rattle.rules.specs.Tree.{Tree}
 use Rattle.rules.specs.Shape.{ShapeAt, Dominates, Undominated, Listed}
 use Rattle.rules.specs.Slot.{Stores, IsListOf}
-use Rattle.rules.specs.Test.{Test, fits, lowest, listByte, onlyIf}
+use Rattle.rules.proofs.Test.{Test, fits, lowest, listByte, onlyIf}
 use Rattle.rules.proofs.Searching.{least-is}
 use Rattle.rules.proofs.Rooms.{Rel, Rising, rising, Minimal, Passes, minimal-below}
 use Rattle.rules.proofs.Fitting.{Decides, fits-growing, realizes-fits}

@@ -16,7 +16,7 @@ use Rattle.rules.specs.Shape.{Undominated, Listed}
 use Rattle.rules.specs.Slot.{Stores, IsListOf, ListsAt}
 use Rattle.rules.specs.Choice.{pairing}
 use Rattle.rules.specs.Edit.{Paired}
-use Rattle.rules.specs.Test.{Test, Grid, grid, turn, across, fits, listByte, stored, sideBySide, pairTest}
+use Rattle.rules.proofs.Test.{Test, Grid, grid, turn, across, fits, listByte, stored, sideBySide, pairTest}
 use Rattle.rules.proofs.Searching.{test-iffs, search-iffs}
 use Rattle.rules.proofs.Rooms.{Passes, Rising, Minimal, same-minimal, turn-minimal, Beside, Lists, Pairings, lemma-2}
 use Rattle.rules.proofs.Fitting.{Decides, fits-growing}

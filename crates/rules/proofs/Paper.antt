@@ -16,7 +16,7 @@ use Rattle.rules.specs.Tree.{Tree, cut}
 use Rattle.rules.specs.Placement.{begins, ends}
 use Rattle.rules.specs.Shape.{bounding, Realizes, Dominates, Undominated, Listed}
 use Rattle.rules.specs.Choice.{beside, pairing}
-use Rattle.rules.specs.Test.{Test, fits, listByte}
+use Rattle.rules.proofs.Test.{Test, fits, listByte}
 use Rattle.rules.proofs.Rooms.{lemma-1}
 use Rattle.rules.proofs.Fitting.{Decides, same-sides, fits-growing, realizes-fits}
 use Rattle.rules.proofs.Listing.{same-shape, list-bytes, minimal-listed, list-complete}

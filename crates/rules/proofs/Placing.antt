@@ -14,7 +14,7 @@ use Rattle.rules.specs.declared.Rectangle.{Rectangle}
 use Rattle.rules.specs.Chip.{OnChip, left, right, bottom, top}
 use Rattle.rules.specs.Tree.{Tree, leaf, cut, has}
 use Rattle.rules.specs.Placement.{Placement, begins, ends, Follows, Lawful, furthest}
-use Rattle.rules.specs.Test.{Test, across, fits, merge}
+use Rattle.rules.proofs.Test.{Test, across, fits, merge}
 use Rattle.rules.proofs.Searching.{or-iff}
 use Rattle.rules.proofs.Rooms.{Growing, joined-in, joined-out}
 use Rattle.rules.proofs.Standing.{Once}

@@ -18,7 +18,7 @@ use Rattle.rules.specs.Tree.{Tree, leaf, cut, has}
 use Rattle.rules.specs.Placement.{Placement, Follows, Lawful, Covers, ShareNoCell, begins, ends, box, area}
 use Rattle.rules.specs.Shape.{Realizes, ShapeAt, Listed}
 use Rattle.rules.specs.Slot.{IsListOf, Stair}
-use Rattle.rules.specs.Test.{Test, room}
+use Rattle.rules.proofs.Test.{Test, room}
 use Rattle.rules.proofs.Searching.{or-iff}
 use Rattle.rules.proofs.Standing.{Once}
 use Rattle.rules.proofs.Fitting.{Decides, realizes-fits, fits-growing, room-right}

@@ -17,7 +17,7 @@ use Rattle.rules.specs.Shape.{Realizes, ShapeAt}
 use Rattle.rules.specs.Slot.{slot, CornerOn, IsListOf, FullLists, ListsAt}
 use Rattle.rules.specs.Edit.{namesPlace, changed, changedNode, Relists, Relisted, EditedLists}
 use Rattle.rules.specs.Design.{LawfulDesign, OwnLists, slotsOf, SuitsOf, chipOf, nodeAt, nodes, root}
-use Rattle.rules.specs.Test.{Test}
+use Rattle.rules.proofs.Test.{Test}
 use Rattle.rules.proofs.Searching.{know, or-iff, eqb-iff}
 use Rattle.rules.proofs.Standing.{Part, whole, in-left, in-right, node-position}
 use Rattle.rules.proofs.Nodes.{part-node, node-part, node-at}

@@ -9,7 +9,7 @@ use native.Mathlib.Omega.{arith}
 use native.Mathlib.Nat.{le-refl}
 use Rattle.rules.specs.declared.Direction.{Direction}
 use Rattle.rules.specs.declared.Direction.the-variants.{Vertical, Horizontal}
-use Rattle.rules.specs.Test.{Test, turn, across, parted}
+use Rattle.rules.proofs.Test.{Test, turn, across, parted}
 use Rattle.rules.proofs.Searching.{any-iff, and-iff, first}
 
 -- a statement on rooms

@@ -10,7 +10,7 @@ use Rattle.rules.specs.declared.Corner.{Corner}
 use Rattle.rules.specs.Search.{all}
 use Rattle.rules.specs.Chip.{corner}
 use Rattle.rules.specs.Slot.{CornerOn, Stair, Stairs}
-use Rattle.rules.specs.Test.{isStair, areStairs}
+use Rattle.rules.proofs.Test.{isStair, areStairs}
 use Rattle.rules.proofs.Searching.{and-iff, or-iff, all-iff, leb-iff, ltb-iff, eqb-iff, know}
 
 module _ (W H : ℕ) (c : Corner) (g : ℕ → ℕ) where

@@ -10,7 +10,7 @@ use Rattle.rules.specs.declared.Design.{Design}
 use Rattle.rules.specs.Design.{chipOf, needAt, SuitsOf}
 use Rattle.rules.specs.Check.{isAtMost}
 use Rattle.rules.specs.Chip.{Chip, OnChip, AtMost, Suits, holds, heldBetween, coversBlock, left, right, bottom, top}
-use Rattle.rules.specs.Test.{suitsRoom}
+use Rattle.rules.proofs.Test.{suitsRoom}
 use Rattle.rules.proofs.Searching.{test-iffs, count-le, total-le}
 use Rattle.rules.proofs.Rooms.{Growing}
 use Rattle.rules.proofs.Fitting.{Decides}

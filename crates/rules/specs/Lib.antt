@@ -13,6 +13,4 @@ pub mod Check
 pub mod Reply
 pub mod Service
 pub mod Program
-pub mod Test
 pub mod Bench
-pub mod Figures

@@ -10,7 +10,7 @@ use Rattle.rules.specs.declared.Corner.{Corner}
 use Rattle.rules.specs.Chip.{corner}
 use Rattle.rules.specs.Slot.{slot, slotStart, CornerOn}
 use Rattle.rules.specs.Design.{nodes}
-use Rattle.rules.specs.Test.{isStair}
+use Rattle.rules.proofs.Test.{isStair}
 use Rattle.rules.proofs.Working.{slot-within}
 use Rattle.stairs.specs.Walk.{Room, bytesFrom}
 

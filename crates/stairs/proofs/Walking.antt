@@ -14,7 +14,7 @@ use borrow.Author.Tests.{lt-ltb, le-ltb, eq-eqb, ne-eqb}
 use Rattle.rules.specs.declared.Corner.{Corner}
 use Rattle.rules.specs.Search.{all}
 use Rattle.rules.specs.Slot.{Stair}
-use Rattle.rules.specs.Test.{isStair}
+use Rattle.rules.proofs.Test.{isStair}
 use Rattle.rules.proofs.Searching.{absurd-so, all-iff, eqb-iff, same-test}
 use Rattle.rules.proofs.Stairs.{stair-iff}
 use Rattle.stairs.specs.Walk.{bytesFrom, zeroAt, nextLow, lowAfter}

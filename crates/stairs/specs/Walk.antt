@@ -9,7 +9,7 @@ use Rattle.rules.specs.Search.{all}
 use Rattle.rules.specs.Chip.{corner}
 use Rattle.rules.specs.Slot.{workNeeded}
 use Rattle.rules.specs.Design.{mostColumns, mostRows}
-use Rattle.rules.specs.Test.{isStair}
+use Rattle.rules.proofs.Test.{isStair}
 
 -- a chip within the limits, and bytes enough for n nodes
 pub record Room (W H n : ℕ) (work : List ℕ) : Type 0 where

@@ -9,7 +9,7 @@ ghost use lib.ListN.{length};
 ghost use Rattle.rules.specs.Search.{all};
 ghost use Rattle.rules.specs.Slot.{slot, CornerOn};
 ghost use Rattle.rules.specs.Design.{mostRows};
-ghost use Rattle.rules.specs.Test.{isStair, areStairs};
+ghost use Rattle.rules.proofs.Test.{isStair, areStairs};
 ghost use Rattle.stairs.specs.Walk.{Room, bytesFrom, zeroAt, lowAfter, rowStairs, nodeStairs};
 
 // The eight bytes from a place on are all zero.

@@ -3,7 +3,7 @@
 use Prim.Native.Nat.{_≤_, _-_}
 use mathlib.Core.Path.{_≡_}
 use native.Mathlib.Omega.{arith}
-use Rattle.rules.specs.Test.{across}
+use Rattle.rules.proofs.Test.{across}
 use Rattle.slots.specs.Written.{PartIs}
 use Rattle.cuts.specs.Cut.{pairedSlot, OnBoard, onLine}
 use Rattle.cuts.proofs.Filling.{roomy-child, roomy-same, corner-on}

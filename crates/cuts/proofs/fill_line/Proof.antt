@@ -3,7 +3,7 @@ use Prim.Native.Nat.{_≤_, _<_, _-_}
 use mathlib.Core.Path.{_≡_}
 use native.Mathlib.Omega.{arith}
 use Rattle.rules.specs.Design.{mostColumns}
-use Rattle.rules.specs.Test.{across}
+use Rattle.rules.proofs.Test.{across}
 use Rattle.cuts.specs.Cut.{slotsOn, OnBoard, LineFilled}
 use Rattle.cuts.proofs.Filling.{corner-on, few-places, line-none, line-next}
 use borrow.Author.Needs.{needs}

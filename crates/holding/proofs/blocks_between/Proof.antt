@@ -5,7 +5,7 @@ use mathlib.Core.Path.{refl}
 use native.Mathlib.Omega.{arith}
 use native.Mathlib.Nat.{div-le-self}
 use borrow.Author.Needs.{needs}
-use Rattle.rules.specs.Test.{blocksBetween}
+use Rattle.rules.proofs.Test.{blocksBetween}
 use Rattle.holding.proofs.blocks_between.Statement.{statement}
 use Rattle.holding.proofs.blocks_between.Tie as tie
 

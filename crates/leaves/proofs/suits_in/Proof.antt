@@ -1,6 +1,6 @@
 -- `leaves::suits_in` meets its contract: each return follows the tests that led there. Assumes nothing.
 use mathlib.Core.Path.{sym, _∙_}
-use Rattle.rules.specs.Test.{blocksOf}
+use Rattle.rules.proofs.Test.{blocksOf}
 use Rattle.leaves.specs.Leaf.{suitsIn}
 use borrow.Author.Tests.{not-true, not-false}
 use borrow.Author.Needs.{needs}

@@ -6,7 +6,7 @@ use native.Mathlib.Omega.{arith}
 use borrow.Author.Needs.{needs}
 use Rattle.rules.specs.Search.{all}
 use Rattle.rules.specs.Slot.{slot}
-use Rattle.rules.specs.Test.{areStairs}
+use Rattle.rules.proofs.Test.{areStairs}
 use Rattle.stairs.specs.Walk.{nodeStairs}
 use Rattle.rules.proofs.Testing.{failed, passed, all-none, all-more, all-fails}
 use Rattle.stairs.proofs.Reaching.{node-room}

@@ -18,7 +18,7 @@ use Rattle.rules.specs.Slot.{slotStart}
 use Rattle.rules.specs.Design.{needAt, nodes, nodeAt, root, chipOf, valueTest, withinLimits, inRange, lawfulNeed, rootSlot}
 use Rattle.rules.specs.Edit.{changed}
 use Rattle.rules.specs.Bytes.{designAt, checkedAt, numberAt, secondByte, thirdByte, rowAt, needOf, tokensAt, padded}
-use Rattle.rules.specs.Test.{grid, Test, suitsRoom, parted, fits, lowest, listByte, stored, sideBySide, pairTest, bestWidth, meets, leftIndex, rightIndex, laid, merge}
+use Rattle.rules.proofs.Test.{grid, Test, suitsRoom, parted, fits, lowest, listByte, stored, sideBySide, pairTest, bestWidth, meets, leftIndex, rightIndex, laid, merge}
 use Rattle.rules.specs.Bench.{Example, lists, contains, slotIs, pairsTo, plansTo, hasNone, reads, E, D, four, table}
 
 -- the first n values of a function, as a list
