@@ -17,7 +17,7 @@ use Rattle.rules.specs.declared.Design.{Design}
 use Rattle.rules.specs.Chip.{corner, shape}
 use Rattle.rules.specs.Tree.{Tree, leaf, cut, position}
 use Rattle.rules.specs.Slot.{Stores, ListsAt, CornerOn}
-use Rattle.rules.specs.Design.{nodes, nodeAt, root, rootSlot, SuitsOf, OwnLists}
+use Rattle.rules.specs.Design.{nodes, nodeAt, root, rootSlot, SuitsOf, OwnLists, widthOf, heightOf}
 use Rattle.rules.specs.Check.{isSuited}
 use Rattle.rules.proofs.Test.{stored}
 use Rattle.rules.specs.Bench.{Example, lists, contains, slotIs, pairsTo, plansTo, hasNone, reads, OneOf, PairsTo, Says, AllSay, table}
@@ -90,14 +90,14 @@ module _ (d : Design) where
   computed-own t h c on = list-bytes (design-decides d) (nodeAt d t) c
 
   -- whatever slots are the tree's lists agree with the computed ones
-  lists-agree : (t : Tree) (g : Corner → ℕ → ℕ) → ListsAt (d .width .0) (d .height .0) (SuitsOf d) g t → Agree (d .width .0) (d .height .0) (treeList d t) g
+  lists-agree : (t : Tree) (g : Corner → ℕ → ℕ) → ListsAt (widthOf d) (heightOf d) (SuitsOf d) g t → Agree (widthOf d) (heightOf d) (treeList d t) g
   unfolding treeList leafTest
-  lists-agree t g l = record { at = λ c on. list-unique (d .width .0) (treeList d t c) (g c) (list-bytes (design-decides d) t c) (l c on) }
+  lists-agree t g l = record { at = λ c on. list-unique (widthOf d) (treeList d t c) (g c) (list-bytes (design-decides d) t c) (l c on) }
 
   lists-row : (c : Corner) (ss : List Shape) → Computes (lists d c ss) → Says (lists d c ss)
   unfolding Computes Says treeList leafTest
   lists-row c ss (t, e) s =
-      let W = d .width .0 in let l = list-bytes (design-decides d) (root d) c in
+      let W = widthOf d in let l = list-bytes (design-decides d) (root d) c in
       let same : (j : ℕ) → j < W → treeList d (root d) c j ≡ bytesOf ss j = λ j h. tab-same W (treeList d (root d) c) _ 0 e j h ∙ tab-at W (bytesOf ss) 0 j h in
       let m = same-list W (treeList d (root d) c) (bytesOf ss) same (λ s. (λ z. z, λ z. z)) l s in let o = stores-one-of W ss t s in
       (λ z. o .0 (m .1 z), λ z. m .0 (o .1 z))
@@ -106,15 +106,15 @@ module _ (d : Design) where
   unfolding Computes Says treeList leafTest
   slot-row start bytes (a, e) = (
     a,
-    same-list (d .width .0) (treeList d (root d) (corner 0 0)) (λ j. getD bytes j 0) (tab-same (d .width .0) _ bytes 0 e) (λ s. (λ z. z, λ z. z))
+    same-list (widthOf d) (treeList d (root d) (corner 0 0)) (λ j. getD bytes j 0) (tab-same (widthOf d) _ bytes 0 e) (λ s. (λ z. z, λ z. z))
         (list-bytes (design-decides d) (root d) (corner 0 0)),
   )
 
-  pairs-row : (bytes : List ℕ) (t : Tree) → Pairs d bytes t → CornerOn (d .width .0) (d .height .0) (corner 0 0) → PairsTo d bytes t
+  pairs-row : (bytes : List ℕ) (t : Tree) → Pairs d bytes t → CornerOn (widthOf d) (heightOf d) (corner 0 0) → PairsTo d bytes t
   unfolding Pairs pairedList
   pairs-row bytes (leaf t k) e on = e
   pairs-row bytes (cut t k l r) e on = λ L R x y.
-      let W = d .width .0 in let H = d .height .0 in let x' = lists-agree l L x in let y' = lists-agree r R y in
+      let W = widthOf d in let H = heightOf d in let x' = lists-agree l L x in let y' = lists-agree r R y in
       same-list W (pairedList d k l r) (λ j. getD bytes j 0) (tab-same W _ bytes 0 e)
       (λ s. (paired-agree W H k x' y' (corner 0 0) on s, paired-agree W H k (agree-back x') (agree-back y') (corner 0 0) on s))
       (pairings-bytes W H k (treeList d l) (treeList d r) (corner 0 0))
@@ -123,7 +123,7 @@ module _ (d : Design) where
   unfolding Computes Says computed
   plans-row s rs (lawful, w, h, m, e) slots own =
       let n = simp test-iffs at m in
-      let W = d .width .0 in let H = d .height .0 in
+      let W = widthOf d in let H = heightOf d in
       let agree : (u : Tree) → Part u (root d) → Agree W H (computed d (position u)) (slots (position u)) =
       λ u q. let (b, i) = part-node d lawful u q in lists-agree (nodeAt d (position u)) (slots (position u)) (own (position u) b) in
       let root-agree : (j : ℕ) → j < W → rootSlot d (computed d) j ≡ rootSlot d slots j = λ j k.
@@ -139,7 +139,7 @@ module _ (d : Design) where
 
   none-row : Computes (hasNone d) → Says (hasNone d)
   unfolding Computes Says
-  none-row (lawful, e) = no-placement d lawful (computed d) computed-own .0 (chooses-none (d .width .0) (rootSlot d (computed d)) e)
+  none-row (lawful, e) = no-placement d lawful (computed d) computed-own .0 (chooses-none (widthOf d) (rootSlot d (computed d)) e)
 
 -- what is computed for a row is what it says
 row-holds : (e : Example) → Computes e → Says e

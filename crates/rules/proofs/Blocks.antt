@@ -9,7 +9,8 @@ use native.Mathlib.Nat.{le-antisymm, add-mul, sub-zero, le-div-iff-mul-le, div-l
 use native.Mathlib.Decide.{decLe, decLt}
 use lib.Dec.{leb, ltb, eqb}
 use Rattle.rules.specs.Search.{count, total}
-use Rattle.rules.specs.Chip.{Chip, Column, columnOf, coversBlock, heldBetween}
+use Rattle.rules.specs.declared.Chip.{Chip}
+use Rattle.rules.specs.Chip.{kindAt, Column, columnOf, column, coversBlock, heldBetween}
 use Rattle.rules.proofs.Test.{blocksBetween, blocksOf}
 use Rattle.rules.proofs.Searching.{know, eqb-iff, test-iffs, count-yes, count-no, count-le, count-most, total-yes, total-no}
 
@@ -53,18 +54,19 @@ blocks-by-division c low far h =
         let z : 0 < suc j * c .high = omega arith in simp test-iffs (omega arith)
 
 -- what a column of kind k holds between two rows of the chip
-column-holds : (H B k low far : ℕ) → 0 < B → far ≤ H
-    → count (columnOf H B k .many) (coversBlock (columnOf H B k) low far) ≡ blocksOf k B low far
+column-holds : (C : Chip) (k low far : ℕ) → 0 < C .block .0 → far ≤ C .height .0
+    → count (columnOf C k .many) (coversBlock (columnOf C k) low far) ≡ blocksOf k (C .block .0) low far
 unfolding columnOf blocksOf blocksBetween
-column-holds H B zero low far h l = blocks-by-division (columnOf H B 0) low far (omega arith) ∙ omega arith
-column-holds H B (suc k) low far h l =
-    let z : far / B ≤ H / B = le-div-iff-mul-le h .1 (omega (arith, div-mul-le-self far B)) in
-    blocks-by-division (columnOf H B (suc k)) low far h ∙ rw (sub-zero far, sub-zero low) (omega arith)
+column-holds C zero low far h l = blocks-by-division (columnOf C 0) low far (omega arith) ∙ omega arith
+column-holds C (suc k) low far h l =
+    let B = C .block .0 in
+    let z : far / B ≤ C .height .0 / B = le-div-iff-mul-le h .1 (omega (arith, div-mul-le-self far B)) in
+    blocks-by-division (columnOf C (suc k)) low far h ∙ rw (sub-zero far, sub-zero low) (omega arith)
 
-column-kind : (H B k : ℕ) → columnOf H B k .kind ≡ k
+column-kind : (C : Chip) (k : ℕ) → columnOf C k .kind ≡ k
 unfolding columnOf
-column-kind H B zero = refl
-column-kind H B (suc k) = refl
+column-kind C zero = refl
+column-kind C (suc k) = refl
 
 -- where a sum adds the same amount for each of the n numbers from a on that pass, it is their count times that amount
 total-count : (p : ℕ → Bool) (u : ℕ → ℕ) (a n v : ℕ) → ((x : ℕ) → So (p x) → u x ≡ v)
@@ -95,23 +97,19 @@ total-count p u a n v same (suc N) = go (know (f N)) (decLe a N) (decLt N (a + n
     go (inr t) (no h) k ih = let e : min (suc N - a) n ≡ min (N - a) n = omega arith in rw e (total-no N f u t ∙ ih)
 
 -- how many of the n columns from a on have kind k
-unfoldable pub columnsOf : (ℕ → ℕ) → ℕ → ℕ → ℕ → ℕ
-columnsOf kind k a n = count n (λ i. eqb (kind (a + i)) k)
+unfoldable pub columnsOf : Chip → ℕ → ℕ → ℕ → ℕ
+columnsOf C k a n = count n (λ i. eqb (kindAt C (a + i)) k)
 
-pub columns-most : (kind : ℕ → ℕ) (k a n : ℕ) → columnsOf kind k a n ≤ n
+pub columns-most : (C : Chip) (k a n : ℕ) → columnsOf C k a n ≤ n
 unfolding columnsOf
-columns-most kind k a n = count-most n _
-
--- the chip of columns of these kinds
-abbrev pub chipBy : ℕ → ℕ → ℕ → (ℕ → ℕ) → Chip
-chipBy W H B kind = record { width = W; height = H; column = λ x. columnOf H B (kind x) }
+columns-most C k a n = count-most n _
 
 -- held = columns of the kind times blocks of the kind whole in the rows
-pub held-is : (kind : ℕ → ℕ) (W H B k a c d n : ℕ) → 0 < B → d ≤ H → a + n ≤ W
-    → heldBetween (chipBy W H B kind) k a c (a + n) d ≡ columnsOf kind k a n * blocksOf k B c d
-unfolding heldBetween columnsOf
-held-is kind W H B k a c d n h l w =
-    let e : min (W - a) n ≡ n = omega arith in
-    total-count (λ x. eqb (columnOf H B (kind x) .kind) k) _ a n (blocksOf k B c d)
-    (λ x t. let z = simp (column-kind, eqb-iff) at t in rw z (column-holds H B k c d h l)) W
+pub held-is : (C : Chip) (k a c d n : ℕ) → 0 < C .block .0 → d ≤ C .height .0 → a + n ≤ C .width .0
+    → heldBetween C k a c (a + n) d ≡ columnsOf C k a n * blocksOf k (C .block .0) c d
+unfolding heldBetween columnsOf column
+held-is C k a c d n h l w =
+    let e : min (C .width .0 - a) n ≡ n = omega arith in
+    total-count (λ x. eqb (column C x .kind) k) _ a n (blocksOf k (C .block .0) c d)
+    (λ x t. let z = simp (column-kind, eqb-iff) at t in rw z (column-holds C k c d h l)) (C .width .0)
     ∙ rw e (simp column-kind)

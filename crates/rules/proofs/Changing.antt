@@ -2,27 +2,25 @@
 -- the same or one cut is turned, so both are read alike; and a module's need is used at its one leaf. Assumes nothing.
 use mathlib.Core.Path.{_≡_, refl, sym, _∙_, ap}
 use mathlib.Core.Logic.{_⊎_, inl, inr}
-use mathlib.Core.Bool.{Bool, true, false, _||_, So}
+use mathlib.Core.Bool.{Bool, _||_, So}
 use mathlib.Core.List.{List, [], _∷_}
-use Prim.Native.Nat.{ℕ, zero, suc, _+_, _-_, _*_, _≤_, _<_}
+use Prim.Native.Nat.{ℕ, suc, _-_, _≤_, _<_}
 use native.Mathlib.Omega.{arith}
 use native.Mathlib.Decide.{decLt, ℕ-discrete}
 use lib.Dec.{ltb, eqb}
 use lib.ListN.{length, getD, set, length-set}
 use lib.Seq.{getD-set-same, getD-set-other, set-out}
 use Rattle.rules.specs.declared.Direction.{Direction}
-use Rattle.rules.specs.declared.Direction.the-variants.{Vertical, Horizontal}
-use Rattle.rules.specs.declared.Token.{Token}
-use Rattle.rules.specs.declared.Token.the-variants.{Cut, Module, Beyond}
+use Rattle.rules.specs.declared.Token.the-variants.{Cut, Module}
 use Rattle.rules.specs.declared.Design.{Design}
 use Rattle.rules.specs.declared.Need.{Need}
 use Rattle.rules.specs.declared.Edit.{Edit}
 use Rattle.rules.specs.declared.Edit.the-variants.{Change, Turn}
-use Rattle.rules.specs.Search.{least}
-use Rattle.rules.specs.Tree.{Tree, leaf, cut, position, has, spans, tokenOf, stands, things}
-use Rattle.rules.specs.Design.{mostModules, noNeed, needAt, tokenAt, nodes, lawfulNeed, withinLimits, chipOf, standingOf, nodeAt, root, LawfulDesign}
-use Rattle.rules.specs.Edit.{namesPlace, changed, changedNode}
-use Rattle.rules.proofs.Searching.{and-iff, eqb-iff, or-iff, any-iff, all-iff, least-found, test-iffs}
+use Rattle.rules.specs.Tree.{Tree, leaf, cut, position, has, spans, tokenOf, stands, things, numberOf, isCut, isModule}
+use Rattle.rules.specs.Design.{mostModules, Sized, noNeed, needAt, tokenAt, nodes, lawfulNeed, withinLimits, standingOf, nodeAt, root, LawfulDesign, mostTokens}
+use Rattle.rules.specs.Edit.{namesPlace, changed, changedNode, other, turned, modulePosition}
+use Rattle.rules.proofs.Searching.{and-iff, eqb-iff, or-iff, any-iff, all-iff, least-found, test-iffs, ltb-iff}
+use Rattle.rules.proofs.Tokens.{cut-undone, cut-iff, module-iff}
 use Rattle.rules.proofs.Standing.{Reading, none-read, module-read, cut-read, read-stands, last-is, earlier}
 use Rattle.rules.proofs.Nodes.{modules-within, lawful-iff, lawful-tree, module-token, module-only}
 
@@ -124,45 +122,29 @@ after-set l i j a x = go (ℕ-discrete j i) (decLt i (length l))
     go (yes e) (yes h) = new (sym e) (rw e (getD-set-same l i a x h))
     go (yes e) (no h) = kept (rw (set-out l i a (omega arith)))
 
--- the number of a module's token, and the numbers of cuts
-module-number : (most v k : ℕ) → tokenOf most v ≡ Module k → v ≡ k + 2
-module-number most zero k e = let z : _≡_ {A = ℕ} 0 1 = cc in absurd (omega arith)
-module-number most (suc zero) k e = let z : _≡_ {A = ℕ} 0 1 = cc in absurd (omega arith)
-module-number most (suc (suc j)) k e = go (ltb j most) e
-  where
-    go : (b : Bool) → elim b as (λ _. Token) [ true ↦ Module j | false ↦ Beyond ] ≡ Module k → suc (suc j) ≡ k + 2
-    go true e = let q : j ≡ k = cc in omega arith
-    go false e = let z : _≡_ {A = ℕ} 0 1 = cc in absurd (omega arith)
-
-cut-number : (most v : ℕ) → v ≤ 1 → (c : Direction) × (tokenOf most v ≡ Cut c)
-cut-number most zero h = (Vertical, refl)
-cut-number most (suc zero) h = (Horizontal, refl)
-cut-number most (suc (suc j)) h = absurd (omega arith)
-
 -- what an edit keeps
 pub record Keeps (d d' : Design) : Type 0 where
-  pub width : d' .width ≡ d .width
-  pub height : d' .height ≡ d .height
-  pub block : d' .block ≡ d .block
-  pub kinds : d' .kinds ≡ d .kinds
+  pub chip : d' .chip ≡ d .chip
   pub modules : d' .modules ≡ d .modules
   pub nodes-same : nodes d' ≡ nodes d
-  pub chip : chipOf d' ≡ chipOf d
 
 pub edit-keeps : (d : Design) (e : Edit) → Keeps d (changed d e)
-unfolding changed chipOf
-edit-keeps d (Change k n) = record { width = refl; height = refl; block = refl; kinds = refl; modules = refl; nodes-same = refl; chip = refl }
-edit-keeps d (Turn t) = record { width = refl; height = refl; block = refl; kinds = refl; modules = refl; nodes-same = refl; chip = refl }
+unfolding changed
+edit-keeps d (Change k n) = record { chip = refl; modules = refl; nodes-same = refl }
+edit-keeps d (Turn t) = record { chip = refl; modules = refl; nodes-same = refl }
+
+-- an edit that turns a cut names one
+cut-named : (d : Design) (t : ℕ) → So (namesPlace d (Turn t)) → (c : Direction) × (tokenAt d t ≡ Cut c)
+unfolding namesPlace
+cut-named d t s = cut-iff (tokenAt d t) .0 (and-iff (ltb t (nodes d)) (isCut (tokenAt d t)) .0 s .1)
 
 module _ (d : Design) (lawful : LawfulDesign d) where
   -- the least position whose token is module k's is where it stands
-  module-place : (k : ℕ) → k < d .modules → let p = least (λ t. eqb (getD (d .tokens) t 0) (k + 2)) (nodes d) 0 in
-      (p < nodes d) × (tokenAt d p ≡ Module k)
+  module-place : (k : ℕ) → k < d .modules → (modulePosition d k < nodes d) × (tokenAt d (modulePosition d k) ≡ Module k)
   module-place k h =
-      let f : ℕ → Bool = λ t. eqb (getD (d .tokens) t 0) (k + 2) in let (t, b, e) = module-token d lawful k h in
-      let n = module-number mostModules (getD (d .tokens) t 0) k e in
-      let (c, s) = least-found f (nodes d) (any-iff (nodes d) f .1 (t, b, eqb-iff (getD (d .tokens) t 0) (k + 2) .1 n)) in
-      (c, ap (tokenOf mostModules) (eqb-iff (getD (d .tokens) (least f (nodes d) 0) 0) (k + 2) .0 s ∙ sym n) ∙ e)
+      let f : ℕ → Bool = λ t. isModule k (tokenAt d t) in let (t, b, e) = module-token d lawful k h in
+      let (c, s) = least-found f (nodes d) (any-iff (nodes d) f .1 (t, b, module-iff k (tokenAt d t) .1 e)) in
+      (c, module-iff k (tokenAt d (modulePosition d k)) .0 s)
 
   pub changed-node : (e : Edit) → So (namesPlace d e) → changedNode d e < nodes d
   unfolding changedNode namesPlace
@@ -179,32 +161,28 @@ module _ (d : Design) (lawful : LawfulDesign d) where
     needs = λ t j h e o. stays t j h e o (after-set (d .needs) k j n noNeed);
   }
     where
-      stays : (t j : ℕ) → t < nodes d → tokenAt d t ≡ Module j → (least (λ t. eqb (getD (d .tokens) t 0) (k + 2)) (nodes d) 0 ≡ t → ⊥)
+      stays : (t j : ℕ) → t < nodes d → tokenAt d t ≡ Module j → (modulePosition d k ≡ t → ⊥)
           → {v : Need} → AfterSet (d .needs) k j n noNeed v → needAt d j ≡ v
       stays t j h e o (kept q) = sym q
       stays t j h e o (new q w) =
           let (b, l) = simp test-iffs at s in let (i, x) = module-place k b in absurd (o (module-only d lawful k _ t i h x (rw q e)))
-  edit-alike (Turn p) s = record {
+  edit-alike (Turn p) s = let (c, x) = cut-named d p s in record {
     count = refl;
-    modules = λ t k e. stays t k e (after-set (d .tokens) p t (1 - getD (d .tokens) p 0) 0);
-    turned = λ t c e. turns t c e (after-set (d .tokens) p t (1 - getD (d .tokens) p 0) 0);
+    modules = λ t k e. stays c x t k e (after-set (d .tokens) p t _ 0);
+    turned = λ t k e. turns c x t k e (after-set (d .tokens) p t _ 0);
     needs = λ t k h e o. refl;
   }
     where
-      small : getD (d .tokens) p 0 ≤ 1
-      small = let (h, l) = simp test-iffs at s in l
+      stays : (c : Direction) → tokenAt d p ≡ Cut c → (t k : ℕ) → tokenAt d t ≡ Module k → {v : ℕ}
+          → AfterSet (d .tokens) p t (numberOf mostModules (turned (tokenAt d p))) 0 v → tokenOf mostModules v ≡ Module k
+      stays c x t k e (kept q) = rw q e
+      stays c x t k e (new q w) = let y = rw q at x in let z : _≡_ {A = ℕ} 0 1 = cc in absurd (omega arith)
 
-      stays : (t k : ℕ) → tokenAt d t ≡ Module k → {v : ℕ} → AfterSet (d .tokens) p t (1 - getD (d .tokens) p 0) 0 v
-          → tokenOf mostModules v ≡ Module k
-      stays t k e (kept q) = rw q e
-      stays t k e (new q w) =
-          let (c, x) = cut-number mostModules (getD (d .tokens) t 0) (rw q at small) in
-          let z : _≡_ {A = ℕ} 0 1 = cc in absurd (omega arith)
-
-      turns : (t : ℕ) (c : Direction) → tokenAt d t ≡ Cut c → {v : ℕ} → AfterSet (d .tokens) p t (1 - getD (d .tokens) p 0) 0 v
-          → (c' : Direction) × (tokenOf mostModules v ≡ Cut c') × ((p ≡ t → ⊥) → c ≡ c')
-      turns t c e (kept q) = (c, rw q e, λ _. refl)
-      turns t c e {v} (new q w) = let (c', x) = cut-number mostModules v (omega arith) in (c', x, λ o. absurd (o q))
+      turns : (c : Direction) → tokenAt d p ≡ Cut c → (t : ℕ) (k : Direction) → tokenAt d t ≡ Cut k → {v : ℕ}
+          → AfterSet (d .tokens) p t (numberOf mostModules (turned (tokenAt d p))) 0 v
+          → (k' : Direction) × (tokenOf mostModules v ≡ Cut k') × ((p ≡ t → ⊥) → k ≡ k')
+      turns c x t k e (kept q) = (k, rw q e, λ _. refl)
+      turns c x t k e (new q w) = (other c, rw (w, x) (cut-undone mostModules (other c)), λ o. absurd (o q))
 
   edit-limits : (e : Edit) → So (namesPlace d e) → So (withinLimits (changed d e))
   unfolding changed namesPlace withinLimits
@@ -233,19 +211,11 @@ module _ (d : Design) (lawful : LawfulDesign d) where
   pub edit-root : (e : Edit) → So (namesPlace d e) → Alike (changedNode d e) d (changed d e) (root d) (root (changed d e))
   edit-root e s = roots-alike (edit-alike e s) lawful .1
 
--- The lists of a design are as long as the code's arrays.
-pub record Sized (d : Design) : Type 0 where
-  pub needs : mostModules ≤ length (d .needs)
-  pub tokens : 2 * mostModules - 1 ≤ length (d .tokens)
-
+-- an edit leaves the design's places as many as they are
 pub edit-sized : (d : Design) (e : Edit) → Sized d → Sized (changed d e)
 unfolding changed
-edit-sized d (Change k n) z = record { needs = rw length-set (z .needs); tokens = z .tokens }
-edit-sized d (Turn t) z = record { needs = z .needs; tokens = rw length-set (z .tokens) }
-
-abbrev pub other : Direction → Direction
-other Vertical = Horizontal
-other Horizontal = Vertical
+edit-sized d (Change k n) z = record { kinds = z .kinds; needs = rw length-set (z .needs); tokens = z .tokens }
+edit-sized d (Turn t) z = record { kinds = z .kinds; needs = z .needs; tokens = rw length-set (z .tokens) }
 
 -- "granted, it makes that one change": the need of module k, and no other
 pub need-changed : (d : Design) → LawfulDesign d → Sized d → (k : ℕ) (n : Need) → So (namesPlace d (Change k n))
@@ -268,17 +238,13 @@ pub cut-turned : (d : Design) → LawfulDesign d → Sized d → (t : ℕ) → S
     → (c : Direction) × (tokenAt d t ≡ Cut c) × (tokenAt (changed d (Turn t)) t ≡ Cut (other c))
 unfolding changed namesPlace
 cut-turned d e z t s =
-    let (h, l) = simp test-iffs at s in let (a, b) = modules-within d (lawful-tree d e .limits) in
-    rw (getD-set-same (d .tokens) t (1 - getD (d .tokens) t 0) 0 (omega arith)) (go (getD (d .tokens) t 0) l)
-  where
-    go : (v : ℕ) → v ≤ 1 → (c : Direction) × (tokenOf mostModules v ≡ Cut c) × (tokenOf mostModules (1 - v) ≡ Cut (other c))
-    go zero h = (Vertical, refl, refl)
-    go (suc zero) h = (Horizontal, refl, refl)
-    go (suc (suc v)) h = absurd (omega arith)
+    let (c, x) = cut-named d t s in let (h, l) = and-iff (ltb t (nodes d)) (isCut (tokenAt d t)) .0 s in
+    let b = ltb-iff t (nodes d) .0 h in let m = modules-within d (lawful-tree d e .limits) in
+    (c, x, rw (getD-set-same (d .tokens) t _ 0 (omega arith), x) (cut-undone mostModules (other c)))
 
 pub tokens-kept : (d : Design) (t s : ℕ) → (s ≡ t → ⊥) → tokenAt (changed d (Turn t)) s ≡ tokenAt d s
 unfolding changed
-tokens-kept d t s o = ap (tokenOf mostModules) (getD-set-other (d .tokens) t s (1 - getD (d .tokens) t 0) 0 o)
+tokens-kept d t s o = ap (tokenOf mostModules) (getD-set-other (d .tokens) t s _ 0 o)
 
 pub needs-of-turn : (d : Design) (t : ℕ) → changed d (Turn t) .needs ≡ d .needs
 unfolding changed

@@ -18,13 +18,13 @@ use Rattle.rules.specs.declared.Reply.the-variants.{Done, Refused}
 use Rattle.rules.specs.Search.{all, least}
 use Rattle.rules.specs.Chip.{OnChip, holds}
 use Rattle.rules.specs.Tree.{Tree, leaf, cut, has}
-use Rattle.rules.specs.Placement.{Placement, Kept, Lawful, begins, ends}
-use Rattle.rules.specs.Design.{needAt, chipOf, SuitsOf, nodes, nodeAt, root, valueTest, LawfulDesign}
-use Rattle.rules.specs.Check.{fromRows, isOnChip, isKept, keptAt, isOn, isSuited, judgedCuts, judgedRows, afterTests, verdict}
+use Rattle.rules.specs.Placement.{Placement, Kept, KeptAt, Lawful, begins, ends}
+use Rattle.rules.specs.Design.{needAt, SuitsOf, nodes, nodeAt, root, valueTest, LawfulDesign, widthOf, heightOf}
+use Rattle.rules.specs.Check.{fromRows, Fine, FirstOff, FirstShort, FirstNotKept, isOnChip, isKept, keptAt, isOn, isSuited, judgedCuts, judgedRows, afterTests, verdict}
 use Rattle.rules.proofs.Suiting.{at-most-iff}
 use Rattle.rules.proofs.Searching.{absurd-so, and-iff, or-iff, not-iff, leb-iff, ltb-iff, know, all-iff, least-is, test-iffs}
 use Rattle.rules.proofs.Standing.{Part, part-has}
-use Rattle.rules.proofs.Nodes.{lawful-tree, node-part, KeptAt, follows-by-nodes}
+use Rattle.rules.proofs.Nodes.{lawful-tree, node-part, follows-by-nodes}
 
 -- the tests say what they test
 pub on-chip-iff : (W H : ℕ) (r : Rectangle) → So (isOnChip W H r) ↔ OnChip W H r
@@ -86,29 +86,6 @@ first-fault f n = go (ltb r n) refl
         later (yes h) g = absurd-so (sym e ∙ ltb-iff r n .1 h)
         later (no h) g = omega arith
 
--- module k has a rectangle on the chip that suits it
-pub record Fine (d : Design) (p : Placement) (k : ℕ) : Type 0 where
-  pub on-chip : OnChip (d .width .0) (d .height .0) (p k)
-  pub suits : SuitsOf d k (p k)
-
--- the first fault: module k is off the chip, or on the chip and short of its need; or all modules are fine and cut t is not kept
-pub record FirstOff (d : Design) (p : Placement) (k : ℕ) : Type 0 where
-  pub below : k < d .modules
-  pub before : (j : ℕ) → j < k → Fine d p j
-  pub fault : OnChip (d .width .0) (d .height .0) (p k) → ⊥
-
-pub record FirstShort (d : Design) (p : Placement) (k : ℕ) : Type 0 where
-  pub below : k < d .modules
-  pub before : (j : ℕ) → j < k → Fine d p j
-  pub on-chip : OnChip (d .width .0) (d .height .0) (p k)
-  pub fault : SuitsOf d k (p k) → ⊥
-
-pub record FirstNotKept (d : Design) (p : Placement) (t : ℕ) : Type 0 where
-  pub below : t < nodes d
-  pub fine : (k : ℕ) → k < d .modules → Fine d p k
-  pub before : (s : ℕ) → s < t → KeptAt p (nodeAt d s)
-  pub fault : KeptAt p (nodeAt d t) → ⊥
-
 -- what each reply of the checker says of a placement for a lawful design
 pub data Judged (d : Design) (p : Placement) : Reply → Type 0 where
   passed : ((k : ℕ) → k < d .modules → Fine d p k) → ((t : ℕ) → t < nodes d → KeptAt p (nodeAt d t)) → Judged d p Done
@@ -119,8 +96,8 @@ pub data Judged (d : Design) (p : Placement) : Reply → Type 0 where
 module _ (d : Design) (lawful : LawfulDesign d) (p : Placement) where
   fine-iff : (k : ℕ) → So (isOn d (p k) && isSuited d k (p k)) ↔ Fine d p k
   fine-iff k =
-      let a = and-iff (isOn d (p k)) (isSuited d k (p k)) in let o = on-chip-iff (d .width .0) (d .height .0) (p k) in
-      let s = at-most-iff (needAt d k) (holds (chipOf d) (p k)) in
+      let a = and-iff (isOn d (p k)) (isSuited d k (p k)) in let o = on-chip-iff (widthOf d) (heightOf d) (p k) in
+      let s = at-most-iff (needAt d k) (holds (d .chip) (p k)) in
       (λ t. record { on-chip = o .0 (a .0 t .0); suits = s .0 (a .0 t .1) }, λ f. a .1 (o .1 (f .on-chip), s .1 (f .suits)))
 
   kept-at-iff : (t : ℕ) → t < nodes d → So (keptAt (d .modules) p (nodeAt d t)) ↔ KeptAt p (nodeAt d t)
@@ -165,8 +142,8 @@ module _ (d : Design) (lawful : LawfulDesign d) (p : Placement) where
           h : r < d .modules
           h = ltb-iff r (d .modules) .0 e
 
-          on : So (isOn d (p r)) ↔ OnChip (d .width .0) (d .height .0) (p r)
-          on = on-chip-iff (d .width .0) (d .height .0) (p r)
+          on : So (isOn d (p r)) ↔ OnChip (widthOf d) (heightOf d) (p r)
+          on = on-chip-iff (widthOf d) (heightOf d) (p r)
 
           fault : (b : Bool) → isOn d (p r) ≡ b
               → Judged d p (elim b as (λ _. Reply) [ true ↦ Refused (ShortOfNeed r) | false ↦ Refused (OffTheChip r) ])
@@ -217,7 +194,7 @@ module _ (d : Design) (lawful : LawfulDesign d) (rows : List ℕ) where
 
   -- "The separate checker passes exactly the lawful placements."
   pub passes-iff : (verdict d rows ≡ Done)
-      ↔ ((4 * d .modules ≤ length rows) × Lawful (d .width .0) (d .height .0) (SuitsOf d) (root d) (fromRows rows))
+      ↔ ((4 * d .modules ≤ length rows) × Lawful (widthOf d) (heightOf d) (SuitsOf d) (root d) (fromRows rows))
   passes-iff = (
     λ e. let (h, j) = judged Done (λ q. let z : _≡_ {A = ℕ} 0 1 = cc in omega arith) e in (h, to j),
     λ t. back (verdict-judged (t .0)) (t .1),
@@ -226,14 +203,14 @@ module _ (d : Design) (lawful : LawfulDesign d) (rows : List ℕ) where
       has-iff : (k : ℕ) → So (has (root d) k) ↔ (k < d .modules)
       has-iff = lawful-tree d lawful .modules
 
-      to : Judged d (fromRows rows) Done → Lawful (d .width .0) (d .height .0) (SuitsOf d) (root d) (fromRows rows)
+      to : Judged d (fromRows rows) Done → Lawful (widthOf d) (heightOf d) (SuitsOf d) (root d) (fromRows rows)
       to (passed f k) = record {
         onChip = λ i t. f i (has-iff i .0 t) .on-chip;
         suits = λ i t. f i (has-iff i .0 t) .suits;
         follows = follows-by-nodes d lawful (fromRows rows) .1 k;
       }
 
-      back : {r : Reply} → Judged d (fromRows rows) r → Lawful (d .width .0) (d .height .0) (SuitsOf d) (root d) (fromRows rows) → r ≡ Done
+      back : {r : Reply} → Judged d (fromRows rows) r → Lawful (widthOf d) (heightOf d) (SuitsOf d) (root d) (fromRows rows) → r ≡ Done
       back (passed f k) L = refl
       back (off-the-chip {k = k} x) L = absurd (x .fault (L .onChip k (has-iff k .1 (x .below))))
       back (short-of-need {k = k} x) L = absurd (x .fault (L .suits k (has-iff k .1 (x .below))))

@@ -10,12 +10,14 @@ use lib.ListN.{length, take, length-take}
 use Rattle.rules.specs.declared.Refusal.{Refusal}
 use Rattle.rules.specs.declared.Refusal.the-variants.{BreaksLimits}
 use Rattle.rules.specs.Tree.{Tree, Standing, refused, things, tokenOf, after}
-use Rattle.rules.specs.Design.{mostColumns, lawfulKind, mostModules, noNeed}
+use Rattle.rules.specs.Design.{mostColumns, lawfulKind, mostModules, mostTokens, noNeed}
 use Rattle.rules.specs.Bytes.{Took, andThen, numberAt, checkedAt, rowAt, needOf, keptToken, tokensAt, designAt}
+use Rattle.rules.specs.Program.{programInput}
 use Rattle.rules.proofs.Searching.{eqb-iff, same-test}
+use Rattle.rules.proofs.Testing.{range-iff}
 use Rattle.rules.proofs.Standing.{one-stands}
 use Rattle.rules.proofs.Numbers.{Answers, takes, refuses, number-read, number-alike, first-alike}
-use Rattle.rules.proofs.Reading.{in-range, Reads, checked-read, need-read, row-read, oneMore, allMore, over-nothing, tokens-read}
+use Rattle.rules.proofs.Reading.{Reads, checked-read, need-read, row-read, oneMore, allMore, over-nothing, tokens-read}
 
 -- two readings that begin alike and go on alike
 then-alike : {A B : Type 0} {Q : A → ℕ → Type 0} {E : Refusal → Type 0} {t t' : Took A} {u v : A → ℕ → Took B} → t ≡ t' → Answers Q E t
@@ -75,23 +77,23 @@ module _ (n : ℕ) (s : List ℕ) where
       kept (things now) f g h = h now refl
 
   -- As many bytes as the most numbers can take, and one that shows whether any follow, decide every reading.
-  pub enough-decide : 3 * (4 + mostColumns + 1 + 3 * mostModules + (2 * mostModules - 1)) < n → designAt (take n s) ≡ designAt s
+  pub enough-decide : 3 * (4 + mostColumns + 1 + 3 * mostModules + mostTokens) < n → designAt (take n s) ≡ designAt s
   unfolding designAt
   enough-decide l =
       then-alike (checked-decided _ _ 0 (omega arith)) (checked-read _ _ first 0) λ form at-w r1.
       then-alike (checked-decided _ _ at-w (omega arith)) (checked-read _ _ first at-w) λ w at-h r2.
-      let wide = in-range 1 mostColumns w (r2 .passes) in
+      let wide = range-iff 1 mostColumns w .0 (r2 .passes) in
       then-alike (checked-decided _ _ at-h (omega arith)) (checked-read _ _ first at-h) λ h at-b r3.
       then-alike (checked-decided _ _ at-b (omega arith)) (checked-read _ _ first at-b) λ b at-kinds r4.
       let kinds-read = checked-read lawfulKind BreaksLimits first in
       then-alike (row-decided (checked-decided _ _) kinds-read w at-kinds (omega arith)) (row-read 0 kinds-read w at-kinds) λ kinds at-m r5.
       then-alike (checked-decided _ _ at-m (omega arith)) (checked-read _ _ first at-m) λ m at-needs r6.
-      let many = in-range 1 mostModules m (r6 .passes) in let needs-read = need-read first in
+      let many = range-iff 1 mostModules m .0 (r6 .passes) in let needs-read = need-read first in
       then-alike (row-decided need-decided needs-read m at-needs (omega arith)) (row-read noNeed needs-read m at-needs) λ needs at-tokens r7.
       then-alike (tokens-decided m (2 * m - 1) 0 [] (one-is-left m (omega arith)) at-tokens (omega arith))
       (tokens-read first m (2 * m - 1) 0 [] at-tokens) λ tokens end r8.
       rw (same-test (eqb end (length first)) (eqb end (length s)) (simp (eqb-iff, length-take) (omega arith)))
 
 -- "The program reads at most 4,096 bytes, enough to decide every reading."
-pub first-bytes-decide : (s : List ℕ) → designAt (take 4096 s) ≡ designAt s
-first-bytes-decide s = enough-decide 4096 s (omega arith)
+pub first-bytes-decide : (s : List ℕ) → designAt (take programInput s) ≡ designAt s
+first-bytes-decide s = enough-decide programInput s (omega arith)

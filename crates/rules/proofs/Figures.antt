@@ -12,10 +12,10 @@ use Rattle.rules.specs.declared.Direction.{Direction}
 use Rattle.rules.specs.declared.Design.{Design}
 use Rattle.rules.specs.declared.Reply.the-variants.{Done}
 use Rattle.rules.specs.Search.{any, all, least, count, total}
-use Rattle.rules.specs.Chip.{corner, columnOf, coversBlock, heldBetween, holds}
+use Rattle.rules.specs.Chip.{corner, column, columnOf, coversBlock, heldBetween, holds}
 use Rattle.rules.specs.Tree.{Tree, leaf, cut, has, stands, joined, added, standing}
 use Rattle.rules.specs.Slot.{slotStart}
-use Rattle.rules.specs.Design.{needAt, nodes, nodeAt, root, chipOf, valueTest, withinLimits, inRange, lawfulNeed, rootSlot}
+use Rattle.rules.specs.Design.{needAt, nodes, nodeAt, root, valueTest, withinLimits, lawfulChip, inRange, lawfulNeed, rootSlot, widthOf, heightOf}
 use Rattle.rules.specs.Edit.{changed}
 use Rattle.rules.specs.Bytes.{designAt, checkedAt, numberAt, secondByte, thirdByte, rowAt, needOf, tokensAt, padded}
 use Rattle.rules.proofs.Test.{grid, Test, suitsRoom, parted, fits, lowest, listByte, stored, sideBySide, pairTest, bestWidth, meets, leftIndex, rightIndex, laid, merge}
@@ -40,31 +40,31 @@ widthsRise W w (s ∷ ss) = ltb w (s .w .0) && leb (s .w .0) W && ltb 0 (s .h .0
 
 -- a design's leaf tests and its computed lists
 unfoldable pub leafTest : Design → ℕ → Test
-leafTest d k = suitsRoom (chipOf d) (needAt d k)
+leafTest d k = suitsRoom (d .chip) (needAt d k)
 
 unfoldable pub treeList : Design → Tree → Corner → ℕ → ℕ
-treeList d t c = listByte (d .height .0) (fits (leafTest d) t) (c .x .0) (c .y .0)
+treeList d t c = listByte (heightOf d) (fits (leafTest d) t) (c .x .0) (c .y .0)
 
 unfoldable pub pairedList : Design → Direction → Tree → Tree → ℕ → ℕ
-pairedList d k l r = listByte (d .height .0) (pairTest k (d .width .0) (d .height .0) (grid (treeList d l)) (grid (treeList d r))) 0 0
+pairedList d k l r = listByte (heightOf d) (pairTest k (widthOf d) (heightOf d) (grid (treeList d l)) (grid (treeList d r))) 0 0
 
 unfoldable pub computed : Design → ℕ → Corner → ℕ → ℕ
 computed d t = treeList d (nodeAt d t)
 
 unfoldable pub Pairs : Design → List ℕ → Tree → Type 0
 Pairs d bytes (leaf t k) = ⊥
-Pairs d bytes (cut t k l r) = tab (d .width .0) (pairedList d k l r) ≡ bytes
+Pairs d bytes (cut t k l r) = tab (widthOf d) (pairedList d k l r) ≡ bytes
 
 -- what is computed for each row
 unfoldable pub Computes : Example → Type 0
-Computes (lists d c shapes) = (widthsRise (d .width .0) 0 shapes ≡ true) × (tab (d .width .0) (treeList d (root d) c) ≡ tab (d .width .0) (bytesOf shapes))
-Computes (contains d r n) = holds (chipOf d) r ≡ n
-Computes (slotIs d start bytes) = (slotStart (d .width .0) (d .height .0) (nodes d - 1) (corner 0 0) ≡ start) × (tab (d .width .0) (treeList d (root d) (corner 0 0)) ≡ bytes)
+Computes (lists d c shapes) = (widthsRise (widthOf d) 0 shapes ≡ true) × (tab (widthOf d) (treeList d (root d) c) ≡ tab (widthOf d) (bytesOf shapes))
+Computes (contains d r n) = holds (d .chip) r ≡ n
+Computes (slotIs d start bytes) = (slotStart (widthOf d) (heightOf d) (nodes d - 1) (corner 0 0) ≡ start) × (tab (widthOf d) (treeList d (root d) (corner 0 0)) ≡ bytes)
 Computes (pairsTo d bytes) = (valueTest d ≡ Done) × Pairs d bytes (root d)
 Computes (plansTo d s rs) =
-    (valueTest d ≡ Done) × (bestWidth (rootSlot d (computed d)) (d .width .0) ≡ s .w .0) × (rootSlot d (computed d) (s .w .0 - 1) ≡ s .h .0)
-    × (leb 1 (s .w .0) && leb (length rs) (d .modules) ≡ true) × (tab (length rs) (laid (d .width .0) (d .height .0) (computed d) (root d) (corner 0 0) s) ≡ rs)
-Computes (hasNone d) = (valueTest d ≡ Done) × (bestWidth (rootSlot d (computed d)) (d .width .0) ≡ 0)
+    (valueTest d ≡ Done) × (bestWidth (rootSlot d (computed d)) (widthOf d) ≡ s .w .0) × (rootSlot d (computed d) (s .w .0 - 1) ≡ s .h .0)
+    × (leb 1 (s .w .0) && leb (length rs) (d .modules) ≡ true) × (tab (length rs) (laid (widthOf d) (heightOf d) (computed d) (root d) (corner 0 0) s) ≡ rs)
+Computes (hasNone d) = (valueTest d ≡ Done) × (bestWidth (rootSlot d (computed d)) (widthOf d) ≡ 0)
 Computes (reads s t) = designAt s ≡ t
 
 unfoldable pub AllCompute : List Example → Type 0
@@ -75,8 +75,8 @@ AllCompute (e ∷ es) = Computes e × AllCompute es
 pub table-computes : AllCompute table
 unfolding AllCompute Computes table tab bytesOf widthsRise leafTest treeList pairedList computed Pairs
     E D four padded changed
-    any all least count total columnOf coversBlock heldBetween holds has stands joined added standing
-    chipOf valueTest withinLimits inRange lawfulNeed designAt checkedAt numberAt secondByte thirdByte rowAt needOf tokensAt
+    any all least count total column columnOf coversBlock heldBetween holds has stands joined added standing
+    valueTest withinLimits lawfulChip inRange lawfulNeed designAt checkedAt numberAt secondByte thirdByte rowAt needOf tokensAt
     suitsRoom parted fits lowest listByte stored sideBySide pairTest bestWidth meets leftIndex rightIndex laid merge
 table-computes = (
   (refl, refl),

@@ -15,11 +15,11 @@ use Rattle.rules.specs.Placement.{Placement, ShareNoCell, box, area}
 use Rattle.rules.specs.Shape.{Listed}
 use Rattle.rules.specs.Slot.{Empty, Stores, CornerOn, Stair, ListsAt}
 use Rattle.rules.specs.Choice.{Chosen}
-use Rattle.rules.specs.Design.{LawfulDesign, LawfulPlacement, AllStairs, OwnLists, rootSlot, GoesDown, SuitsOf, chipOf, needAt, nodeAt, nodes, root, inRange, withinLimits}
+use Rattle.rules.specs.Design.{LawfulDesign, LawfulPlacement, AllStairs, OwnLists, rootSlot, GoesDown, SuitsOf, needAt, nodeAt, nodes, root, widthOf, heightOf}
 use Rattle.rules.specs.Check.{isSuited}
 use Rattle.rules.proofs.Test.{goesDown, laid}
-use Rattle.rules.proofs.Searching.{test-iffs}
 use Rattle.rules.proofs.Nodes.{lawful-tree, root-position, node-at, by-nodes}
+use Rattle.rules.proofs.Limits.{limits}
 use Rattle.rules.proofs.Standing.{whole, node-position}
 use Rattle.rules.proofs.Suiting.{design-decides, at-most-iff}
 use Rattle.rules.proofs.Placing.{PlacedIn}
@@ -35,22 +35,21 @@ pub record Floorplan (d : Design) (s : Shape) (p : Placement) : Type 0 where
   pub smallest : (q : Placement) → LawfulPlacement d q → area s ≤ area (box (root d) q)
 
 -- a lawful design's chip has the corner (0, 0)
-pub corner-zero : (d : Design) → LawfulDesign d → CornerOn (d .width .0) (d .height .0) (corner 0 0)
-unfolding withinLimits inRange
-corner-zero d lawful = let h = simp test-iffs at (lawful-tree d lawful .limits) in record { column = h .0 .0 .0 .0 .0 .0; row = h .0 .0 .0 .0 .1 .0 }
+pub corner-zero : (d : Design) → LawfulDesign d → CornerOn (widthOf d) (heightOf d) (corner 0 0)
+corner-zero d lawful = let l = limits d lawful in record { column = l .chip .wide; row = l .chip .high }
 
 pub suited-decides : (d : Design) (k : ℕ) (r : Rectangle) → SuitsOf d k r ↔ So (isSuited d k r)
-suited-decides d k r = let e = at-most-iff (needAt d k) (holds (chipOf d) r) in (e .1, e .0)
+suited-decides d k r = let e = at-most-iff (needAt d k) (holds (d .chip) r) in (e .1, e .0)
 
 module _ (d : Design) (lawful : LawfulDesign d) (slots : ℕ → Corner → ℕ → ℕ) where
-  own-every : OwnLists d slots → Every (λ u. ListsAt (d .width .0) (d .height .0) (SuitsOf d) (slots (position u)) u) (root d)
+  own-every : OwnLists d slots → Every (λ u. ListsAt (widthOf d) (heightOf d) (SuitsOf d) (slots (position u)) u) (root d)
   own-every own =
-      by-nodes d lawful (λ u. ListsAt (d .width .0) (d .height .0) (SuitsOf d) (slots (position u)) u) .1
+      by-nodes d lawful (λ u. ListsAt (widthOf d) (heightOf d) (SuitsOf d) (slots (position u)) u) .1
       (λ t h c on. rw (node-position (node-at d lawful t h)) (own t h c on))
 
   stairs-every : AllStairs d slots
-      → Every (λ u. (c : Corner) → CornerOn (d .width .0) (d .height .0) c → Stair (d .width .0) (d .height .0) c (slots (position u) c)) (root d)
-  stairs-every st = by-nodes d lawful (λ u. (c : Corner) → CornerOn (d .width .0) (d .height .0) c → Stair (d .width .0) (d .height .0) c (slots (position u) c)) .1
+      → Every (λ u. (c : Corner) → CornerOn (widthOf d) (heightOf d) c → Stair (widthOf d) (heightOf d) c (slots (position u) c)) (root d)
+  stairs-every st = by-nodes d lawful (λ u. (c : Corner) → CornerOn (widthOf d) (heightOf d) c → Stair (widthOf d) (heightOf d) c (slots (position u) c)) .1
       (λ t h c on. rw (node-position (node-at d lawful t h)) (st t c h on))
 
   pub own-stairs : OwnLists d slots → AllStairs d slots
@@ -61,41 +60,41 @@ module _ (d : Design) (lawful : LawfulDesign d) (slots : ℕ → Corner → ℕ 
   root-at c = let e = root-position d lawful in let q : nodes d - 1 ≡ position (root d) = omega arith in rw q
 
   -- whatever stairs a stranger wrote: what goes down is lawful, and lies in the shape
-  pub down-lawful : AllStairs d slots → (s : Shape) (p : Placement) → Stores (d .width .0) (rootSlot d slots) s
-      → GoesDown d slots s p → PlacedIn (d .width .0) (d .height .0) (SuitsOf d) (root d) p 0 0 (0 + s .w .0) (0 + s .h .0)
+  pub down-lawful : AllStairs d slots → (s : Shape) (p : Placement) → Stores (widthOf d) (rootSlot d slots) s
+      → GoesDown d slots s p → PlacedIn (widthOf d) (heightOf d) (SuitsOf d) (root d) p 0 0 (0 + s .w .0) (0 + s .h .0)
   down-lawful st s p z down =
       down-placed slots (root d) (corner 0 0) s p (stairs-every st) (corner-zero d lawful) (rw (root-at (corner 0 0)) at z) down
 
   -- the computed rectangles are on the chip, whatever test the leaves pass
-  pub laid-on-chip : AllStairs d slots → (suits : ℕ → Rectangle → Bool) (s : Shape) → Stores (d .width .0) (rootSlot d slots) s
-      → So (goesDown (d .width .0) (d .height .0) suits slots (root d) (corner 0 0) s)
-      → (k : ℕ) → k < d .modules → OnChip (d .width .0) (d .height .0) (laid (d .width .0) (d .height .0) slots (root d) (corner 0 0) s k)
+  pub laid-on-chip : AllStairs d slots → (suits : ℕ → Rectangle → Bool) (s : Shape) → Stores (widthOf d) (rootSlot d slots) s
+      → So (goesDown (widthOf d) (heightOf d) suits slots (root d) (corner 0 0) s)
+      → (k : ℕ) → k < d .modules → OnChip (widthOf d) (heightOf d) (laid (widthOf d) (heightOf d) slots (root d) (corner 0 0) s k)
   laid-on-chip st suits s z g k h =
-      let W = d .width .0 in let H = d .height .0 in let T = lawful-tree d lawful in
+      let W = widthOf d in let H = heightOf d in let T = lawful-tree d lawful in
       let S : ℕ → Rectangle → Type 0 = λ j r. So (suits j r) in
       let down = laid-down W H S slots suits (λ j r. (λ t. t, λ t. t)) (root d) (T .once) (corner 0 0) s g in
       down-placed {S = S} slots (root d) (corner 0 0) s (laid W H slots (root d) (corner 0 0) s) (stairs-every st) (corner-zero d lawful)
       (rw (root-at (corner 0 0)) at z) down .lawful .onChip k (T .modules k .1 h)
 
   module _ (own : OwnLists d slots) where
-    root-listed : (s : Shape) → Stores (d .width .0) (rootSlot d slots) s ↔ Listed (d .width .0) (d .height .0) (SuitsOf d) (root d) (corner 0 0) s
+    root-listed : (s : Shape) → Stores (widthOf d) (rootSlot d slots) s ↔ Listed (widthOf d) (heightOf d) (SuitsOf d) (root d) (corner 0 0) s
     root-listed s = let l = own-every own (root d) whole (corner 0 0) (corner-zero d lawful) s in (λ z. l .0 (rw (root-at (corner 0 0)) at z), λ z. rw (root-at (corner 0 0)) (l .1 z))
 
     -- "no placement" is right exactly if the root's list at (0, 0) is empty
-    pub no-placement : Empty (d .width .0) (rootSlot d slots) ↔ ((p : Placement) → LawfulPlacement d p → ⊥)
+    pub no-placement : Empty (widthOf d) (rootSlot d slots) ↔ ((p : Placement) → LawfulPlacement d p → ⊥)
     no-placement =
         let n = none-listed (design-decides d) (root d) (lawful-tree d lawful .once) in
         (λ f. n .1 (λ s z. f s (root-listed s .1 z)), λ f s z. n .0 f s (root-listed s .0 z))
 
     -- from the chosen shape one can go down, and whoever does has the promised floorplan
-    pub goes-down : (s : Shape) → Stores (d .width .0) (rootSlot d slots) s → (p : Placement) × GoesDown d slots s p
+    pub goes-down : (s : Shape) → Stores (widthOf d) (rootSlot d slots) s → (p : Placement) × GoesDown d slots s p
     goes-down s z =
         let g = own-goes-down (design-decides d) (isSuited d) (suited-decides d) slots (root d) (own-every own) (corner 0 0) s (corner-zero d lawful) (root-listed s .0 z) in (
-          laid (d .width .0) (d .height .0) slots (root d) (corner 0 0) s,
-          laid-down (d .width .0) (d .height .0) (SuitsOf d) slots (isSuited d) (suited-decides d) (root d) (lawful-tree d lawful .once) (corner 0 0) s g,
+          laid (widthOf d) (heightOf d) slots (root d) (corner 0 0) s,
+          laid-down (widthOf d) (heightOf d) (SuitsOf d) slots (isSuited d) (suited-decides d) (root d) (lawful-tree d lawful .once) (corner 0 0) s g,
         )
 
-    pub chosen-floorplan : (s : Shape) → Chosen (d .width .0) (rootSlot d slots) s → (p : Placement) → GoesDown d slots s p → Floorplan d s p
+    pub chosen-floorplan : (s : Shape) → Chosen (widthOf d) (rootSlot d slots) s → (p : Placement) → GoesDown d slots s p → Floorplan d s p
     chosen-floorplan s ch p down =
         let z = down-lawful (own-stairs own) s p (ch .stored) down in
         record {
@@ -106,9 +105,9 @@ module _ (d : Design) (lawful : LawfulDesign d) (slots : ℕ → Corner → ℕ 
         }
 
     -- plan's promise, whole: no lawful placement, or a shape is chosen, and one goes down from it to the floorplan promised
-    pub planned : (Empty (d .width .0) (rootSlot d slots) × ((p : Placement) → LawfulPlacement d p → ⊥))
-        ⊎ ((s : Shape) × Chosen (d .width .0) (rootSlot d slots) s × ((p : Placement) × GoesDown d slots s p × Floorplan d s p))
+    pub planned : (Empty (widthOf d) (rootSlot d slots) × ((p : Placement) → LawfulPlacement d p → ⊥))
+        ⊎ ((s : Shape) × Chosen (widthOf d) (rootSlot d slots) s × ((p : Placement) × GoesDown d slots s p × Floorplan d s p))
     planned =
         ⊎-elim (λ e. inl (e .1, no-placement .0 (e .1)))
         (λ ch. let (p, down) = goes-down _ (ch .stored) in inr (_, ch, (p, down, chosen-floorplan _ ch p down)))
-        (chooses (d .width .0) (rootSlot d slots))
+        (chooses (widthOf d) (rootSlot d slots))

@@ -2,6 +2,8 @@
 pub mod Test
 pub mod Searching
 pub mod Testing
+pub mod Below
+pub mod Tokens
 pub mod Standing
 pub mod Nodes
 pub mod Limits
@@ -27,5 +29,7 @@ pub mod Changing
 pub mod Relisting
 pub mod Working
 pub mod Stairs
+pub mod Same
+pub mod Carrying
 pub mod Figures
 pub mod Bench

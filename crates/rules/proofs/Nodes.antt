@@ -14,7 +14,7 @@ use Rattle.rules.specs.declared.Refusal.the-variants.{BreaksLimits, NotO
 use Rattle.rules.specs.declared.Reply.{Reply}
 use Rattle.rules.specs.declared.Reply.the-variants.{Done, Refused}
 use Rattle.rules.specs.Tree.{Tree, leaf, cut, position, has, Standing, refused, things, last}
-use Rattle.rules.specs.Placement.{Placement, Kept, Follows}
+use Rattle.rules.specs.Placement.{Placement, Kept, Follows, KeptAt}
 use Rattle.rules.specs.Design.{mostModules, tokenAt, nodes, inRange, withinLimits, standingOf, nodeAt, root, treeTest, valueTest, LawfulDesign}
 use Rattle.rules.proofs.Standing.{Once, Part, whole, in-left, in-right, Among, here, Reading, Node, is-leaf, was-read, node-among, among-node, last-position, node-is, leaf-of, module-once, one-stands}
 use Rattle.rules.proofs.Searching.{test-iffs}
@@ -110,11 +110,6 @@ module _ (d : Design) (lawful : LawfulDesign d) where
   -- what holds of each node holds of each part of the root, and back
   pub by-nodes : (P : Tree → Type 0) → ((u : Tree) → Part u (root d) → P u) ↔ ((t : ℕ) → t < nodes d → P (nodeAt d t))
   by-nodes P = (λ f t h. f (nodeAt d t) (node-part t h), λ f u p. let (h, q) = part-node u p in rw q (f (position u) h))
-
--- the cut at the top of a tree is kept
-abbrev pub KeptAt : Placement → Tree → Type 0
-KeptAt p (leaf t k) = Unit {0}
-KeptAt p (cut t d l r) = Kept d l r p
 
 top-kept : (t : Tree) (p : Placement) → Follows t p → KeptAt p t
 unfolding Follows

@@ -16,12 +16,8 @@ use borrow.Author.Tests.{ltb-true, ltb-false, leb-true, lt-ltb, le-ltb, le-leb}
 use Rattle.rules.specs.declared.Refusal.{Refusal}
 use Rattle.rules.specs.declared.Refusal.the-variants.{Unfinished, Malformed}
 use Rattle.rules.specs.Design.{mostNumber}
-use Rattle.rules.specs.Bytes.{Took, took, refuse, judged, numberBytes, numberAt, secondByte, thirdByte}
+use Rattle.rules.specs.Bytes.{AreBytes, Took, took, refuse, judged, numberBytes, numberAt, secondByte, thirdByte}
 use Rattle.rules.proofs.Searching.{same-test, ltb-iff}
-
--- a list of bytes
-abbrev pub Bytes : List ℕ → Type 0
-Bytes s = (i : ℕ) → getD s i 0 < 256
 
 -- xs stands in s from one position up to another; what stands end to end stands as one, and back
 pub record Stands (s : List ℕ) (at next : ℕ) (xs : List ℕ) : Type 0 where
@@ -78,20 +74,20 @@ module _ {A : Type 0} {Q : A → ℕ → Type 0} {E : Refusal → Type 0} where
 pub record Read {A : Type 0} (P : A → Type 0) (g : A → List ℕ) (s : List ℕ) (k at : ℕ) (x : A) (next : ℕ) : Type 0 where
   pub passes : P x
   pub short : next ≤ at + k
-  pub stands : Bytes s → Stands s at next (g x)
+  pub stands : AreBytes s → Stands s at next (g x)
 
 -- the three shortest forms, written
-bytes-one : (n : ℕ) → n < 128 → numberBytes n ≡ n ∷ []
+pub one-byte : (n : ℕ) → n < 128 → numberBytes n ≡ n ∷ []
 unfolding numberBytes
-bytes-one n h = rw (lt-ltb n 128 h, numberBytes)
+one-byte n h = rw (lt-ltb n 128 h, numberBytes)
 
-bytes-two : (n : ℕ) → 128 ≤ n → n < 16384 → numberBytes n ≡ (128 + n % 128) ∷ n / 128 ∷ []
+pub two-bytes : (n : ℕ) → 128 ≤ n → n < 16384 → numberBytes n ≡ (128 + n % 128) ∷ n / 128 ∷ []
 unfolding numberBytes
-bytes-two n h k = rw (le-ltb n 128 h, lt-ltb n 16384 k, numberBytes)
+two-bytes n h k = rw (le-ltb n 128 h, lt-ltb n 16384 k, numberBytes)
 
-bytes-three : (n : ℕ) → 16384 ≤ n → numberBytes n ≡ (128 + n % 128) ∷ (128 + n / 128 % 128) ∷ n / 16384 ∷ []
+pub three-bytes : (n : ℕ) → 16384 ≤ n → numberBytes n ≡ (128 + n % 128) ∷ (128 + n / 128 % 128) ∷ n / 16384 ∷ []
 unfolding numberBytes
-bytes-three n h = let k : 128 ≤ n = omega arith in rw (le-ltb n 128 k, le-ltb n 16384 h, numberBytes)
+three-bytes n h = let k : 128 ≤ n = omega arith in rw (le-ltb n 128 k, le-ltb n 16384 h, numberBytes)
 
 group : (n a b : ℕ) → n ≡ a + 128 * b → a < 128 → n % 128 ≡ a
 group n a b e h = omega arith
@@ -111,12 +107,12 @@ module _ (s : List ℕ) (at : ℕ) where
 
   -- "Only the shortest form is valid, at most three bytes, value at most 65,535."
   abbrev pub Number : ℕ → ℕ → Type 0
-  Number = Read (λ v. Bytes s → v ≤ mostNumber) numberBytes s 3 at
+  Number = Read (λ v. AreBytes s → v ≤ mostNumber) numberBytes s 3 at
 
   one-read : at < length s → low < 128 → Number low (at + 1)
   one-read h l =
       let b = byte-stands s at (at + 1) refl h in
-      record { passes = λ _. omega arith; short = omega arith; stands = λ _. rw (bytes-one low l) b }
+      record { passes = λ _. omega arith; short = omega arith; stands = λ _. rw (one-byte low l) b }
 
   two-read : at + 1 < length s → 128 ≤ low → mid < 128 → 0 < mid → Number (low - 128 + 128 * mid) (at + 2)
   two-read h l m z = record {
@@ -126,7 +122,7 @@ module _ (s : List ℕ) (at : ℕ) where
         let v = low - 128 + 128 * mid in let i = small at in
         let a = byte-stands s at (at + 1) refl (omega arith) in let b = byte-stands s (at + 1) (at + 2) (omega arith) h in
         let x : 128 + v % 128 ≡ low = omega arith in let y : v / 128 ≡ mid = omega arith in
-        rw (bytes-two v (omega arith) (omega arith), x, y) (both-stand a b);
+        rw (two-bytes v (omega arith) (omega arith), x, y) (both-stand a b);
   }
 
   three-read : at + 2 < length s → 128 ≤ low → 128 ≤ mid → 0 < high → whole ≤ mostNumber → Number whole (at + 3)
@@ -140,7 +136,7 @@ module _ (s : List ℕ) (at : ℕ) where
         let g = group (whole / 128) (mid - 128) high (omega arith) (omega arith) in
         let x : 128 + whole % 128 ≡ low = omega arith in let y : 128 + whole / 128 % 128 ≡ mid = omega arith in
         let o : whole / 16384 ≡ high = omega arith in
-        rw (bytes-three whole (omega arith), x, y, o) (both-stand a (both-stand b c));
+        rw (three-bytes whole (omega arith), x, y, o) (both-stand a (both-stand b c));
   }
 
   -- What is read is a number; or it is refused with "the position of the first byte of the number at fault".
@@ -165,14 +161,14 @@ module _ (s : List ℕ) (at : ℕ) where
     where
       go : Dec (n < 128) → Dec (n < 16384) → numberAt s at ≡ took n next
       go (yes h) _ =
-          let f = rw (bytes-one n h) at e in let (i, a) = rw add-zero at (byte-at f 0 (omega arith)) in let p = f .long in
+          let f = rw (one-byte n h) at e in let (i, a) = rw add-zero at (byte-at f 0 (omega arith)) in let p = f .long in
           cc (lt-ltb _ _ i, lt-ltb low 128 (omega arith))
       go (no h) (yes l) =
-          let f = rw (bytes-two n (omega arith) l) at e in let (i, a) = rw add-zero at (byte-at f 0 (omega arith)) in
+          let f = rw (two-bytes n (omega arith) l) at e in let (i, a) = rw add-zero at (byte-at f 0 (omega arith)) in
           let (j, b) = byte-at f 1 (omega arith) in let p = f .long in let v : low - 128 + 128 * mid ≡ n = omega arith in
           cc (lt-ltb _ _ i, le-ltb low 128 (omega arith), lt-ltb _ _ j, lt-ltb mid 128 (omega arith), lt-ltb 0 mid (omega arith))
       go (no h) (no l) =
-          let f = rw (bytes-three n (omega arith)) at e in let (i, a) = rw add-zero at (byte-at f 0 (omega arith)) in
+          let f = rw (three-bytes n (omega arith)) at e in let (i, a) = rw add-zero at (byte-at f 0 (omega arith)) in
           let (j, b) = byte-at f 1 (omega arith) in let (k, c) = byte-at f 2 (omega arith) in
           let p = f .long in let v : whole ≡ n = omega arith in
           let x = le-ltb low 128 (omega arith) in let y = le-ltb mid 128 (omega arith) in let z = lt-ltb 0 high (omega arith) in

@@ -48,6 +48,12 @@ furthest-within side (cut t d l r) p n f =
     let h = furthest-within side l p n (λ k s. f k (or-iff (has l k) (has r k) .1 (inl s))) in
     let g = furthest-within side r p n (λ k s. f k (or-iff (has l k) (has r k) .1 (inr s))) in omega arith
 
+pub furthest-same : (side : Rectangle → ℕ) (t : Tree) (p q : Placement) → ((k : ℕ) → So (has t k) → p k ≡ q k) → furthest side t p ≡ furthest side t q
+unfolding furthest has
+furthest-same side (leaf t k) p q same = rw (same k (eq-eqb k k refl))
+furthest-same side (cut t d l r) p q same =
+    rw (furthest-same side l p q (λ k s. same k (or-iff (has l k) (has r k) .1 (inl s))), furthest-same side r p q (λ k s. same k (or-iff (has l k) (has r k) .1 (inr s))))
+
 pub furthest-reaches : (side : Rectangle → ℕ) (t : Tree) (p : Placement) (k : ℕ) → So (has t k) → side (p k) ≤ furthest side t p
 unfolding furthest has
 furthest-reaches side (leaf t j) p k s = rw (eqb-true k j s) (le-refl (side (p j)))

@@ -8,20 +8,23 @@ use mathlib.Core.List.{List, [], _∷_, _++_, append-assoc, append-nil}
 use Prim.Native.Nat.{ℕ, zero, suc, _+_, _-_, _*_, _≤_, _<_}
 use native.Mathlib.Omega.{arith}
 use native.Mathlib.Nat.{zero-add, add-zero}
-use native.Mathlib.Decide.{decLt}
-use lib.ListN.{length, getD, replicate}
+use lib.ListN.{length, getD, replicate, length-append, length-replicate}
 use lib.Seq.{drop-length}
-use borrow.Author.Tests.{le-ltb, leb-true, eqb-true, eq-eqb}
+use borrow.Author.Tests.{leb-true, eqb-true, eq-eqb}
 use Rattle.rules.specs.declared.Need.{Need}
+use Rattle.rules.specs.declared.Chip.{Chip}
 use Rattle.rules.specs.declared.Design.{Design}
 use Rattle.rules.specs.declared.Refusal.{Refusal}
 use Rattle.rules.specs.declared.Refusal.the-variants.{BreaksLimits}
+use Rattle.rules.specs.Chip.{kindAt}
 use Rattle.rules.specs.Tree.{Tree, Standing, refused, things, tokenOf, after, standing}
-use Rattle.rules.specs.Design.{mostColumns, mostRows, lastKind, lawfulKind, mostModules, mostNumber, noNeed, kindAt, needAt, tokenAt, nodes, inRange, lawfulNeed, withinLimits, standingOf, root, LawfulDesign, SameDesign}
-use Rattle.rules.specs.Bytes.{Took, took, andThen, numberBytes, needBytes, rowBytes, designBytes, checkedAt, limitedAt, rowAt, needOf, keptToken, tokensAt, padded, designOf, designAt}
+use Rattle.rules.specs.Design.{mostColumns, mostRows, lastKind, lawfulKind, mostModules, mostTokens, mostNumber, Sized, noNeed, needAt, tokenAt, nodes, inRange, lawfulNeed, withinLimits, standingOf, root, LawfulDesign, SameDesign, lawfulChip, widthOf, heightOf}
+use Rattle.rules.specs.Bytes.{AreBytes, Took, took, andThen, numberBytes, needBytes, rowBytes, designBytes, checkedAt, limitedAt, rowAt, needOf, keptToken, tokensAt, padded, designAt, chipFrom, designFrom}
 use Rattle.rules.proofs.Searching.{and-iff, all-iff, test-iffs}
+use Rattle.rules.proofs.Testing.{range-iff}
+use Rattle.rules.proofs.Tokens.{kept-small}
 use Rattle.rules.proofs.Nodes.{lawful-iff}
-use Rattle.rules.proofs.Numbers.{Bytes, Stands, none-stands, both-stand, each-stands, Answers, takes, refuses, if-judged, took-so, Read, number-read, number-written}
+use Rattle.rules.proofs.Numbers.{Stands, none-stands, both-stand, each-stands, Answers, takes, refuses, if-judged, took-so, Read, number-read, number-written}
 
 -- "reading sets them to zero": a padded row has the same things in every place
 pub padded-at : {A : Type 0} (size : ℕ) (z : A) (xs : List A) (i : ℕ) → getD (padded size z xs) i z ≡ getD xs i z
@@ -48,16 +51,16 @@ listed-at a (suc n) (suc i) z l = listed-at (λ i. a (suc i)) n i z (omega arith
 
 -- The tests of a design handed over as a value: it is lawful exactly if it passes them.
 pub record Tests (d : Design) : Type 0 where
-  pub width : So (inRange 1 mostColumns (d .width .0))
-  pub height : So (inRange 1 mostRows (d .height .0))
-  pub block : So (inRange 1 (d .height .0) (d .block .0))
-  pub kinds : (x : ℕ) → x < d .width .0 → So (lawfulKind (kindAt d x))
+  pub width : So (inRange 1 mostColumns (widthOf d))
+  pub height : So (inRange 1 mostRows (heightOf d))
+  pub block : So (inRange 1 (heightOf d) (d .chip .block .0))
+  pub kinds : (x : ℕ) → x < widthOf d → So (lawfulKind (kindAt (d .chip) x))
   pub modules : So (inRange 1 mostModules (d .modules))
   pub needs : (k : ℕ) → k < d .modules → So (lawfulNeed (needAt d k))
   pub tree : standingOf d (nodes d) ≡ things (root d ∷ [])
 
 pub tests-iff : (d : Design) → LawfulDesign d ↔ Tests d
-unfolding withinLimits
+unfolding withinLimits lawfulChip
 tests-iff d = (
   λ e. let (t, q) = lawful-iff d .0 e in let l = simp (and-iff, all-iff) at t in record {
     width = l .0 .0 .0 .0 .0;
@@ -70,10 +73,6 @@ tests-iff d = (
   },
   λ t. lawful-iff d .1 (simp (and-iff, all-iff) (((((t .width, t .height), t .block), t .kinds), t .modules), t .needs), t .tree),
 )
-
-pub in-range : (low most n : ℕ) → So (inRange low most n) → (low ≤ n) × (n ≤ most)
-unfolding inRange
-in-range low most n t = simp test-iffs at t
 
 -- One more token over what stands, and n more, from position t on. Over nothing they leave what stands after n tokens.
 unfoldable pub oneMore : ℕ → ℕ → ℕ → Standing → Standing
@@ -94,22 +93,13 @@ unfolding allMore oneMore standing
 over-nothing m a zero = refl
 over-nothing m a (suc n) = last-more m 0 a n (things []) ∙ rw (zero-add, over-nothing m a n)
 
--- where things stand in the end, none of the tokens was refused, and none is too large to be written
+-- where things stand in the end, none of the tokens was refused
 none-refused : (m t : ℕ) (a : ℕ → ℕ) (n : ℕ) (x : Standing) (ts : List Tree) → allMore m t a n x ≡ things ts
     → (now : List Tree) × (x ≡ things now)
 unfolding allMore oneMore
 none-refused m t a n (things now) ts e = (now, refl)
 none-refused m t a zero refused ts e = let z : _≡_ {A = ℕ} 0 1 = cc in absurd (omega arith)
 none-refused m t a (suc n) refused ts e = none-refused m (suc t) (λ i. a (suc i)) n refused ts e
-
-token-small : (m t k : ℕ) (ts now : List Tree) → after m t (tokenOf mostModules k) ts ≡ things now → k ≤ mostNumber
-token-small m t zero ts now e = omega arith
-token-small m t (suc zero) ts now e = omega arith
-token-small m t (suc (suc k)) ts now e = go (decLt k mostModules)
-  where
-    go : Dec (k < mostModules) → suc (suc k) ≤ mostNumber
-    go (yes h) = omega arith
-    go (no h) = let q = le-ltb k mostModules (omega arith) in let z : _≡_ {A = ℕ} 0 1 = cc in absurd (omega arith)
 
 -- rows are written from the front as well
 row-front : {A : Type 0} (g : A → List ℕ) (a : ℕ → A) (n : ℕ) → rowBytes g a (suc n) ≡ g (a 0) ++ rowBytes g (λ i. a (suc i)) n
@@ -149,15 +139,15 @@ need-read s at =
     })
 
 pub row-read : {A : Type 0} {P : A → Type 0} {g : A → List ℕ} {s : List ℕ} {k : ℕ} {f : ℕ → Took A} (z : A) → Reads P g s k f → (n : ℕ)
-    → Reads (λ xs. (i : ℕ) → i < n → P (getD xs i z)) (λ xs. rowBytes g (λ i. getD xs i z) n) s (n * k) (rowAt f n)
+    → Reads (λ xs. (length xs ≡ n) × ((i : ℕ) → i < n → P (getD xs i z))) (λ xs. rowBytes g (λ i. getD xs i z) n) s (n * k) (rowAt f n)
 unfolding rowAt rowBytes
 row-read {s = s} z h zero at =
-    takes {n = at} (record { passes = λ i l. absurd (omega arith); short = omega arith; stands = λ _. none-stands s at })
+    takes {n = at} (record { passes = (refl, λ i l. absurd (omega arith)); short = omega arith; stands = λ _. none-stands s at })
 row-read {g = g} z h (suc n) at =
     then-takes (h at) λ x next a.
     then-takes (row-read z h n next) λ xs end b.
     takes {n = end} (record {
-      passes = elim [ zero ↦ λ l. a .passes | suc i ↦ λ l. b .passes i (omega arith) ];
+      passes = (ap suc (b .passes .0), elim [ zero ↦ λ l. a .passes | suc i ↦ λ l. b .passes .1 i (omega arith) ]);
       short = omega arith;
       stands = λ small. rw (row-front g (λ i. getD (x ∷ xs) i z) n) (both-stand (a .stands small) (b .stands small));
     })
@@ -168,18 +158,18 @@ kept-takes at refused h = refuses tt
 kept-takes at (things now) h = h now refl
 
 pub tokens-read : (s : List ℕ) (m n t : ℕ) (ts : List Tree)
-    → Reads (λ ks. (u : Tree) × (allMore m t (λ i. getD ks i 0) n (things ts) ≡ things (u ∷ [])))
+    → Reads (λ ks. (length ks ≡ n) × ((u : Tree) × (allMore m t (λ i. getD ks i 0) n (things ts) ≡ things (u ∷ []))))
     (λ ks. rowBytes numberBytes (λ i. getD ks i 0) n) s (n * 3) (tokensAt s m t n ts)
 unfolding tokensAt allMore oneMore rowBytes
 tokens-read s m zero t [] at = refuses tt
-tokens-read s m zero t (u ∷ []) at = takes {n = at} (record { passes = (u, refl); short = omega arith; stands = λ _. none-stands s at })
+tokens-read s m zero t (u ∷ []) at = takes {n = at} (record { passes = (refl, (u, refl)); short = omega arith; stands = λ _. none-stands s at })
 tokens-read s m zero t (u ∷ (v ∷ ts)) at = refuses tt
 tokens-read s m (suc n) t ts at =
     then-takes (number-read s at) λ k next a.
     kept-takes at (after m t (tokenOf mostModules k) ts) λ now e.
     then-takes (tokens-read s m n (suc t) now next) λ ks end b.
     takes {n = end} (record {
-      passes = (b .passes .0, rw e (b .passes .1));
+      passes = let (long, (u, q)) = b .passes in (ap suc long, (u, rw e q));
       short = omega arith;
       stands = λ small. rw (row-front numberBytes (λ i. getD (k ∷ ks) i 0) n) (both-stand (a .stands small) (b .stands small));
     })
@@ -199,7 +189,7 @@ checked-written test r s v t l at next h = rw (number-written s at v next l h, t
 
 limited-written : (low most : ℕ) (s : List ℕ) (v : ℕ) → So (inRange low most v) → most ≤ mostNumber
     → ReadAs s (numberBytes v) (limitedAt low most s) v
-limited-written low most s v t l = let r = in-range low most v t in checked-written (inRange low most) BreaksLimits s v t (omega arith)
+limited-written low most s v t l = let r = range-iff low most v .0 t in checked-written (inRange low most) BreaksLimits s v t (omega arith)
 
 need-written : (s : List ℕ) (x : Need) → So (lawfulNeed x) → ReadAs s (needBytes x) (needOf s) x
 unfolding needOf needBytes lawfulNeed
@@ -223,14 +213,19 @@ unfolding tokensAt allMore oneMore rowBytes listed
 tokens-written s m zero t a ts u q at next e = let x : ts ≡ u ∷ [] = cc in let y : at ≡ next = omega (arith, e .long) in rw (x, y)
 tokens-written s m (suc n) t a ts u q at next e =
     let (now, b) = none-refused m (suc t) (λ i. a (suc i)) n (after m t (tokenOf mostModules (a 0)) ts) (u ∷ []) q in
-    then-written _ (λ i j. number-written s i (a 0) j (token-small m t (a 0) ts now b)) (rw (row-front numberBytes a n) at e) λ mid k.
+    then-written _ (λ i j. number-written s i (a 0) j (omega (arith, kept-small mostModules m t (a 0) ts now b))) (rw (row-front numberBytes a n) at e) λ mid k.
     rw (b, tokens-written s m n (suc t) (λ i. a (suc i)) now u (rw b at q) mid next k)
 
 whole : {s xs : List ℕ} {n : ℕ} → n ≡ length s → Stands s 0 n xs → xs ≡ s
 whole {s} {xs} e h = sym (append-nil xs) ∙ ap (λ l. xs ++ l) (sym (drop-length s) ∙ rw e) ∙ sym (h .bytes)
 
--- Accepted bytes are used up, by a lawful design, and are its own.
-accepted : (s : List ℕ) → Takes (λ d n. LawfulDesign d × (n ≡ length s) × (Bytes s → designBytes d ≡ s)) (designAt s)
+-- a padded row has as many places as it is given
+padded-long : {A : Type 0} (size : ℕ) (z : A) (xs : List A) → length xs ≤ size → length (padded size z xs) ≡ size
+unfolding padded
+padded-long size z xs h = simp (length-append, length-replicate) (omega arith)
+
+-- Accepted bytes are used up, by a lawful design, and are its own; its places are as many as they have to be.
+accepted : (s : List ℕ) → Takes (λ d n. LawfulDesign d × (n ≡ length s) × (AreBytes s → designBytes d ≡ s) × Sized d) (designAt s)
 unfolding designAt designBytes
 accepted s =
     then-takes (checked-read _ _ s 0) λ form at-w r1.
@@ -242,16 +237,16 @@ accepted s =
     then-takes (row-read noNeed (need-read s) m at-needs) λ needs at-tokens r7.
     then-takes (tokens-read s m (2 * m - 1) 0 [] at-tokens) λ tokens end r8.
     if-judged (refuses tt) λ t.
-    let d = designOf w h b kinds m needs tokens in let all-used = eqb-true end (length s) t in
-    let tree = rw over-nothing at (r8 .passes .1) in
+    let d = designFrom (chipFrom w h b kinds) m needs tokens in let all-used = eqb-true end (length s) t in
+    let tree = rw over-nothing at (r8 .passes .1 .1) in
     takes (
       tests-iff d .1 (record {
         width = r2 .passes;
         height = r3 .passes;
         block = r4 .passes;
-        kinds = λ x l. rw padded-at (r5 .passes x l);
+        kinds = λ x l. rw padded-at (r5 .passes .1 x l);
         modules = r6 .passes;
-        needs = λ k l. rw padded-at (r7 .passes k l);
+        needs = λ k l. rw padded-at (r7 .passes .1 k l);
         tree = simp (tokenAt, padded-at, tree);
       }),
       all-used,
@@ -260,29 +255,37 @@ accepted s =
           whole all-used (simp (kindAt, needAt, padded-at) (both-stand form-stands (both-stand (r2 .stands small) (both-stand
           (r3 .stands small) (both-stand (r4 .stands small) (both-stand (r5 .stands small) (both-stand (r6 .stands small)
           (both-stand (r7 .stands small) (r8 .stands small))))))))),
+      let few = range-iff 1 mostColumns w .0 (r2 .passes) in let some = range-iff 1 mostModules m .0 (r6 .passes) in record {
+        kinds = let l = r5 .passes .0 in padded-long mostColumns 0 kinds (omega arith);
+        needs = let l = r7 .passes .0 in padded-long mostModules noNeed needs (omega arith);
+        tokens = let l = r8 .passes .0 in padded-long mostTokens 0 tokens (omega arith);
+      },
     )
 
 -- What is read is a lawful design, and all bytes are used.
 pub read-lawful : (s : List ℕ) (d : Design) (n : ℕ) → designAt s ≡ took d n → LawfulDesign d × (n ≡ length s)
-read-lawful s d n e = let (lawful, all-used, _) = took-so d n (accepted s) e in (lawful, all-used)
+read-lawful s d n e = let (lawful, all-used, _, _) = took-so d n (accepted s) e in (lawful, all-used)
+
+-- and has its places
+pub read-sized : (s : List ℕ) (d : Design) (n : ℕ) → designAt s ≡ took d n → Sized d
+read-sized s d n e = took-so d n (accepted s) e .3
 
 -- "accepted bytes, written again, are the same bytes"
-pub read-written : (s : List ℕ) (d : Design) (n : ℕ) → Bytes s → designAt s ≡ took d n → designBytes d ≡ s
+pub read-written : (s : List ℕ) (d : Design) (n : ℕ) → AreBytes s → designAt s ≡ took d n → designBytes d ≡ s
 read-written s d n small e = took-so d n (accepted s) e .2 small
 
--- the same design with zeros in the places that are ignored
+-- the same chip, and the same design, with zeros in the places that are ignored
+abbrev clearedChip : Chip → Chip
+clearedChip C = chipFrom (C .width .0) (C .height .0) (C .block .0) (listed (kindAt C) (C .width .0))
+
 unfoldable pub cleared : Design → Design
 cleared d =
-    designOf (d .width .0) (d .height .0) (d .block .0) (listed (kindAt d) (d .width .0)) (d .modules) (listed (needAt d) (d .modules))
-    (listed (λ t. getD (d .tokens) t 0) (nodes d))
+    designFrom (clearedChip (d .chip)) (d .modules) (listed (needAt d) (d .modules)) (listed (λ t. getD (d .tokens) t 0) (nodes d))
 
 pub cleared-same : (d : Design) → SameDesign d (cleared d)
 unfolding cleared
 cleared-same d = record {
-  width = refl;
-  height = refl;
-  block = refl;
-  kinds = λ x l. rw (padded-at, listed-at);
+  chip = record { width = refl; height = refl; block = refl; kinds = λ x l. rw (padded-at, listed-at) };
   modules = refl;
   needs = λ k l. rw (padded-at, listed-at);
   tokens = λ t l. rw (padded-at, listed-at);
@@ -292,14 +295,14 @@ cleared-same d = record {
 pub written-read : (d : Design) → LawfulDesign d → designAt (designBytes d) ≡ took (cleared d) (length (designBytes d))
 unfolding designAt designBytes cleared
 written-read d lawful =
-    let t = tests-iff d .0 lawful in let s = designBytes d in let high = in-range 1 mostRows (d .height .0) (t .height) in
+    let t = tests-iff d .0 lawful in let s = designBytes d in let high = range-iff 1 mostRows (heightOf d) .0 (t .height) in
     let token : ℕ → ℕ = λ t. getD (d .tokens) t 0 in
     let all : Stands s 0 (length s) s = record { long = omega arith; bytes = rw drop-length (sym (append-nil s)) } in
     then-written _ (checked-written _ _ s 1 refl (omega arith)) all λ at-w e1.
-    then-written _ (limited-written 1 mostColumns s (d .width .0) (t .width) (omega arith)) e1 λ at-h e2.
-    then-written _ (limited-written 1 mostRows s (d .height .0) (t .height) (omega arith)) e2 λ at-b e3.
-    then-written _ (limited-written 1 (d .height .0) s (d .block .0) (t .block) (omega arith)) e3 λ at-kinds e4.
-    then-written _ (row-written s numberBytes _ (d .width .0) (kindAt d) λ i l. let k : kindAt d i ≤ lastKind = leb-true _ _ (t .kinds i l) in
+    then-written _ (limited-written 1 mostColumns s (widthOf d) (t .width) (omega arith)) e1 λ at-h e2.
+    then-written _ (limited-written 1 mostRows s (heightOf d) (t .height) (omega arith)) e2 λ at-b e3.
+    then-written _ (limited-written 1 (heightOf d) s (d .chip .block .0) (t .block) (omega arith)) e3 λ at-kinds e4.
+    then-written _ (row-written s numberBytes _ (widthOf d) (kindAt (d .chip)) λ i l. let k : kindAt (d .chip) i ≤ lastKind = leb-true _ _ (t .kinds i l) in
     checked-written lawfulKind BreaksLimits s _ (t .kinds i l) (omega arith)) e4 λ at-m e5.
     then-written _ (limited-written 1 mostModules s (d .modules) (t .modules) (omega arith)) e5 λ at-needs e6.
     then-written _ (row-written s needBytes _ (d .modules) (needAt d) λ i l. need-written s _ (t .needs i l)) e6 λ at-tokens e7.

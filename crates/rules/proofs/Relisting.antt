@@ -16,7 +16,7 @@ use Rattle.rules.specs.Tree.{Tree, leaf, cut, has, spans, position}
 use Rattle.rules.specs.Shape.{Realizes, ShapeAt}
 use Rattle.rules.specs.Slot.{slot, CornerOn, IsListOf, FullLists, ListsAt}
 use Rattle.rules.specs.Edit.{namesPlace, changed, changedNode, Relists, Relisted, EditedLists}
-use Rattle.rules.specs.Design.{LawfulDesign, OwnLists, slotsOf, SuitsOf, chipOf, nodeAt, nodes, root}
+use Rattle.rules.specs.Design.{LawfulDesign, OwnLists, slotsOf, SuitsOf, nodeAt, nodes, root, widthOf, heightOf}
 use Rattle.rules.proofs.Test.{Test}
 use Rattle.rules.proofs.Searching.{know, or-iff, eqb-iff}
 use Rattle.rules.proofs.Standing.{Part, whole, in-left, in-right, node-position}
@@ -78,12 +78,12 @@ module _ {W H : ℕ} (S : ℕ → Rectangle → Type 0) {S' : ℕ → Rectangle 
       (kept-lists (cut t d l r) q) (know (spans (cut t d l r) p))
 
 -- off the way the two designs' shapes are the same
-off-same : (d d' : Design) (p : ℕ) (u u' : Tree) → chipOf d' ≡ chipOf d → Alike p d d' u u' → (So (spans u' p) → ⊥)
-    → (c : Corner) (s : Shape) → ShapeAt (d .width .0) (d .height .0) (SuitsOf d) u c s ↔ ShapeAt (d .width .0) (d .height .0) (SuitsOf d') u' c s
+off-same : (d d' : Design) (p : ℕ) (u u' : Tree) → d' .chip ≡ d .chip → Alike p d d' u u' → (So (spans u' p) → ⊥)
+    → (c : Corner) (s : Shape) → ShapeAt (widthOf d) (heightOf d) (SuitsOf d) u c s ↔ ShapeAt (widthOf d) (heightOf d) (SuitsOf d') u' c s
 off-same d d' p u u' ec a o c s =
     let (e, f) = alike-off a (λ i. o (rw (alike-spans a p) at i)) in (
-      λ z. rw (← e) (realizes-same (d .width .0) (d .height .0) u (λ k r i x. rw (ec, ← f k i) x) _ z),
-      λ z. realizes-same (d .width .0) (d .height .0) u (λ k r i x. rw (← ec, f k i) x) _ (rw (← e) at z),
+      λ z. rw (← e) (realizes-same (widthOf d) (heightOf d) u (λ k r i x. rw (ec, ← f k i) x) _ z),
+      λ z. realizes-same (widthOf d) (heightOf d) u (λ k r i x. rw (← ec, f k i) x) _ (rw (← e) at z),
     )
 
 -- relisting the way from an edited node to the root turns own lists of the old design into own lists of the new one
@@ -92,7 +92,7 @@ pub relisted-own : (d : Design) (e : Edit) → LawfulDesign d → So (namesPlace
 unfolding changed
 relisted-own d e lawful names work work' own rel =
     let d' = changed d e in let p = changedNode d e in let lawful' = edit-lawful d lawful e names in let k = edit-keeps d e in
-    let kw : d' .width .0 ≡ d .width .0 = ap (λ w. w .0) (k .width) in let kh : d' .height .0 ≡ d .height .0 = ap (λ h. h .0) (k .height) in
+    let kw : widthOf d' ≡ widthOf d = ap (λ C. C .width .0) (k .chip) in let kh : heightOf d' ≡ heightOf d = ap (λ C. C .height .0) (k .chip) in
     let lists = relisted-lists (SuitsOf d) (rw (kw, kh) at (design-decides d')) (nodeAt d) (nodeAt d') (nodes d) p (root d')
     (λ u q. let (h, r) = part-node d' lawful' u q in (rw (k .nodes-same) at h, r))
     (λ t h o. off-same d d' p (nodeAt d t) (nodeAt d' t) (k .chip) (edit-nodes d lawful e names t h) o) work work' own rel in
@@ -100,16 +100,16 @@ relisted-own d e lawful names work work' own rel =
 
 -- where every node is listed from what it is relisted from, the bytes are the design's own lists
 pub relists-own : (d : Design) → LawfulDesign d → (work : List ℕ)
-    → ((t : ℕ) → t < nodes d → (c : Corner) → CornerOn (d .width .0) (d .height .0) c
-    → IsListOf (d .width .0) (slotsOf d work t c) (Relists (d .width .0) (d .height .0) (SuitsOf d) work (nodeAt d t) c))
+    → ((t : ℕ) → t < nodes d → (c : Corner) → CornerOn (widthOf d) (heightOf d) c
+    → IsListOf (widthOf d) (slotsOf d work t c) (Relists (widthOf d) (heightOf d) (SuitsOf d) work (nodeAt d t) c))
     → OwnLists d (slotsOf d work)
 relists-own d lawful work made t h c on = rw (node-position (node-at d lawful t h)) at (go (nodeAt d t) (node-part d lawful t h) c on)
   where
-    at : (u : Tree) → Part u (root d) → (c : Corner) → CornerOn (d .width .0) (d .height .0) c
-        → IsListOf (d .width .0) (slotsOf d work (position u) c) (Relists (d .width .0) (d .height .0) (SuitsOf d) work u c)
+    at : (u : Tree) → Part u (root d) → (c : Corner) → CornerOn (widthOf d) (heightOf d) c
+        → IsListOf (widthOf d) (slotsOf d work (position u) c) (Relists (widthOf d) (heightOf d) (SuitsOf d) work u c)
     at u q c on = let (b, e) = part-node d lawful u q in rw (← e) at (made (position u) b c on)
 
-    go : (u : Tree) → Part u (root d) → ListsAt (d .width .0) (d .height .0) (SuitsOf d) (slotsOf d work (position u)) u
+    go : (u : Tree) → Part u (root d) → ListsAt (widthOf d) (heightOf d) (SuitsOf d) (slotsOf d work (position u)) u
     go (leaf t k) q = at (leaf t k) q
     go (cut t e l r) q = let x = go l (part-left q) in let y = go r (part-right q) in λ c on s.
         let m = at (cut t e l r) q c on s in

@@ -6,10 +6,9 @@ use native.Mathlib.Omega.{arith}
 use native.Mathlib.Decide.{ℕ-discrete}
 use lib.ListN.{length, getD, drop, length-append, length-drop}
 use lib.Seq.{getD-append-add, sets, sets-eq, take-at, drop-append-add, drop-drop}
-use Rattle.rules.specs.declared.Rectangle.{Rectangle}
 use Rattle.rules.specs.Chip.{rectangle}
 use Rattle.rules.specs.Placement.{Placement}
-use Rattle.rules.specs.Choice.{rowsOut}
+use Rattle.rules.specs.Choice.{rowOf, rowsOut}
 use Rattle.rules.specs.Check.{fromRows}
 
 pub length-rows : (m : ℕ) (p : Placement) → length (rowsOut m p) ≡ 4 * m
@@ -24,16 +23,13 @@ rows-same zero p q e = refl
 rows-same (suc k) p q e = rw (rows-same k p q (λ i h. e i (omega arith)), e k (omega arith))
 
 -- storing the next module's bytes
-abbrev four : Rectangle → List ℕ
-four r = r .corner .x .0 ∷ r .corner .y .0 ∷ r .shape .w .0 ∷ r .shape .h .0 ∷ []
-
 pub row-more : (k : ℕ) (p : Placement) (rows : List ℕ) → 4 * k + 4 ≤ length rows
-    → sets (rowsOut k p ++ drop (4 * k) rows) (4 * k) (four (p k)) ≡ rowsOut (suc k) p ++ drop (4 * suc k) rows
+    → sets (rowsOut k p ++ drop (4 * k) rows) (4 * k) (rowOf (p k)) ≡ rowsOut (suc k) p ++ drop (4 * suc k) rows
 unfolding rowsOut
 row-more k p rows h =
     let l = length-rows k p in let e : 4 * suc k ≡ 4 * k + 4 = omega arith in
     let r : drop (4 * k + 4) (rowsOut k p ++ drop (4 * k) rows) ≡ drop (4 * suc k) rows = rw (e, ← l, drop-append-add, drop-drop) in
-    sets-eq (four (p k)) (rowsOut k p ++ drop (4 * k) rows) (4 * k) (simp (length-append, length-drop) (omega arith))
+    sets-eq (rowOf (p k)) (rowsOut k p ++ drop (4 * k) rows) (4 * k) (simp (length-append, length-drop) (omega arith))
     ∙ rw (take-at (rowsOut k p) (drop (4 * k) rows) (4 * k) l, r, append-assoc)
 
 -- what stands behind n bytes
@@ -46,7 +42,7 @@ rows-back zero p rest k h = absurd (omega arith)
 rows-back (suc n) p rest k h = rw append-assoc (go (ℕ-discrete k n) (rows-back n p))
   where
     next : List ℕ
-    next = four (p n) ++ rest
+    next = rowOf (p n) ++ rest
 
     at : (i : ℕ) → getD (rowsOut n p ++ next) (4 * n + i) 0 ≡ getD next i 0
     at i = behind (rowsOut n p) next (4 * n) i (4 * n + i) (length-rows n p) refl

@@ -66,10 +66,21 @@ pub data Node (m : ℕ) (token : ℕ → Token) (t : ℕ) : Tree → Type 0 wher
 none-of-refused : {A : Type 0} (ts : List Tree) → refused ≡ things ts → A
 none-of-refused ts e = let z : _≡_ {A = ℕ} 0 1 = cc in absurd (omega arith)
 
-joined-among : {u l r : Tree} {t : ℕ} {d : Direction} {ts : List Tree} → Among u (r ∷ (l ∷ ts)) → Among u (cut t d l r ∷ ts)
+pub joined-among : {u l r : Tree} {t : ℕ} {d : Direction} {ts : List Tree} → Among u (r ∷ (l ∷ ts)) → Among u (cut t d l r ∷ ts)
 joined-among (here p) = here (in-right p)
 joined-among (there (here p)) = here (in-left p)
 joined-among (there (there a)) = there a
+
+-- what stood before a cut stands after it
+pub joined-stands : (t : ℕ) (d : Direction) (l r : Tree) (ts : List Tree) (k : ℕ) → stands (r ∷ (l ∷ ts)) k ≡ stands (cut t d l r ∷ ts) k
+unfolding stands has
+joined-stands t d l r ts k = go (has l k) (has r k) (stands ts k)
+  where
+    go : (x y z : Bool) → y || (x || z) ≡ (x || y) || z
+    go true true z = refl
+    go true false z = refl
+    go false true z = refl
+    go false false z = refl
 
 module _ {m : ℕ} {token : ℕ → Token} where
   one-read : (n : ℕ) (ts us : List Tree) (k : Token) → token n ≡ k → Reading m token n ts → after m n k ts ≡ things us
@@ -239,19 +250,10 @@ fair {m} (cut-read {n = n} {d = d} {l = a} {r = b} {ts = ts} r e) = let F = fair
     o .1 .1,
     λ k s t. apart o k t (or-iff (has a k) (has b k) .0 s),
   );
-  below = λ k t. F .below k (rw (same k) t);
-  size = let q = ap (count m) (fun-ext same) in omega (arith, F .size);
+  below = λ k t. F .below k (rw (joined-stands n d a b ts k) t);
+  size = let q = ap (count m) (fun-ext (joined-stands n d a b ts)) in omega (arith, F .size);
 }
   where
-    same : (k : ℕ) → has b k || (has a k || stands ts k) ≡ (has a k || has b k) || stands ts k
-    same k = go (has a k) (has b k) (stands ts k)
-      where
-        go : (x y z : Bool) → y || (x || z) ≡ (x || y) || z
-        go true true z = refl
-        go true false z = refl
-        go false true z = refl
-        go false false z = refl
-
     apart : OnceAll (b ∷ (a ∷ ts)) → (k : ℕ) → So (stands ts k) → So (has a k) ⊎ So (has b k) → ⊥
     apart o k t (inl s) = o .1 .2 k s t
     apart o k t (inr s) = o .2 k s (or-iff (has a k) (stands ts k) .1 (inr t))

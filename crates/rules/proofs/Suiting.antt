@@ -7,9 +7,10 @@ use native.Mathlib.Omega.{arith}
 use Rattle.rules.specs.declared.Need.{Need}
 use Rattle.rules.specs.declared.Rectangle.{Rectangle}
 use Rattle.rules.specs.declared.Design.{Design}
-use Rattle.rules.specs.Design.{chipOf, needAt, SuitsOf}
+use Rattle.rules.specs.declared.Chip.{Chip}
+use Rattle.rules.specs.Design.{needAt, SuitsOf, widthOf, heightOf}
 use Rattle.rules.specs.Check.{isAtMost}
-use Rattle.rules.specs.Chip.{Chip, OnChip, AtMost, Suits, holds, heldBetween, coversBlock, left, right, bottom, top}
+use Rattle.rules.specs.Chip.{OnChip, AtMost, Suits, column, holds, heldBetween, coversBlock, left, right, bottom, top}
 use Rattle.rules.proofs.Test.{suitsRoom}
 use Rattle.rules.proofs.Searching.{test-iffs, count-le, total-le}
 use Rattle.rules.proofs.Rooms.{Growing}
@@ -18,11 +19,11 @@ use Rattle.rules.proofs.Fitting.{Decides}
 held-grows : (C : Chip) (k a c b d a' c' b' d' : ℕ) → a' ≤ a → c' ≤ c → b ≤ b' → d ≤ d' → heldBetween C k a c b d ≤ heldBetween C k a' c' b' d'
 unfolding heldBetween coversBlock
 held-grows C k a c b d a' c' b' d' p q r s =
-    total-le (C .width) _ _ _ _
+    total-le (C .width .0) _ _ _ _
     (λ x t. let h = simp test-iffs at t in simp test-iffs ((omega arith, omega arith), h .1))
-    (λ x. count-le (C .column x .many) _ _ (λ j t. let h = simp test-iffs at t in simp test-iffs (omega arith)))
+    (λ x. count-le (column C x .many) _ _ (λ j t. let h = simp test-iffs at t in simp test-iffs (omega arith)))
 
-pub suits-growing : (C : Chip) (n : Need) → Growing (C .width) (C .height) (suitsRoom C n)
+pub suits-growing : (C : Chip) (n : Need) → Growing (C .width .0) (C .height .0) (suitsRoom C n)
 unfolding suitsRoom
 suits-growing C n = record {
   grow = λ a c b d a' c' b' d' t p q r s u v.
@@ -34,7 +35,7 @@ suits-growing C n = record {
 
 -- the test of a room's four sides is 01's rule for a rectangle
 pub suits-decided : (C : Chip) (n : Need) (r : Rectangle)
-    → (OnChip (C .width) (C .height) r × Suits C n r) ↔ So (suitsRoom C n (left r) (bottom r) (right r) (top r))
+    → (OnChip (C .width .0) (C .height .0) r × Suits C n r) ↔ So (suitsRoom C n (left r) (bottom r) (right r) (top r))
 unfolding suitsRoom holds
 suits-decided C n r = (
   λ z. let (o, s) = z in simp test-iffs (omega (arith, o .wide, o .high, o .columns, o .rows, s .clbs, s .rams, s .multipliers)),
@@ -53,13 +54,12 @@ at-most-iff n m = (
 )
 
 -- what a design's leaves list is decided by the test of their rooms
-pub design-decides : (d : Design) → Decides (d .width .0) (d .height .0) (SuitsOf d) (λ k. suitsRoom (chipOf d) (needAt d k))
-unfolding chipOf
-design-decides d = record { growing = λ k. suits-growing (chipOf d) (needAt d k); decides = λ k. suits-decided (chipOf d) (needAt d k) }
+pub design-decides : (d : Design) → Decides (widthOf d) (heightOf d) (SuitsOf d) (λ k. suitsRoom (d .chip) (needAt d k))
+design-decides d = record { growing = λ k. suits-growing (d .chip) (needAt d k); decides = λ k. suits-decided (d .chip) (needAt d k) }
 
 -- "a larger rectangle on the chip suits if a part of it does"
-pub larger-suits : (C : Chip) (n : Need) (part whole : Rectangle) → OnChip (C .width) (C .height) part → Suits C n part
-    → OnChip (C .width) (C .height) whole → left whole ≤ left part → bottom whole ≤ bottom part → right part ≤ right whole → top part ≤ top whole
+pub larger-suits : (C : Chip) (n : Need) (part whole : Rectangle) → OnChip (C .width .0) (C .height .0) part → Suits C n part
+    → OnChip (C .width .0) (C .height .0) whole → left whole ≤ left part → bottom whole ≤ bottom part → right part ≤ right whole → top part ≤ top whole
     → Suits C n whole
 larger-suits C n part whole o s o' p q r u =
     suits-decided C n whole .1

@@ -9,8 +9,9 @@ use Rattle.rules.specs.declared.Corner.{Corner}
 use Rattle.rules.specs.declared.Shape.{Shape}
 use Rattle.rules.specs.declared.Rectangle.{Rectangle}
 use Rattle.rules.specs.declared.Need.{Need}
+use Rattle.rules.specs.declared.Chip.{Chip}
 use Rattle.rules.specs.Search.{any, all, least}
-use Rattle.rules.specs.Chip.{Chip, corner, shape, rectangle, heldBetween}
+use Rattle.rules.specs.Chip.{corner, shape, rectangle, heldBetween}
 use Rattle.rules.specs.Tree.{Tree, leaf, cut, has, position}
 use Rattle.rules.specs.Placement.{Placement}
 use Rattle.rules.specs.Choice.{beside, pairing}
@@ -51,7 +52,7 @@ blocksOf (suc k) B low far = blocksBetween B low far
 -- the room is on the chip and suits the need
 unfoldable pub suitsRoom : Chip → Need → Test
 suitsRoom C n a c b d =
-    ltb a b && ltb c d && leb b (C .width) && leb d (C .height)
+    ltb a b && ltb c d && leb b (C .width .0) && leb d (C .height .0)
     && leb (n .clbs) (heldBetween C 0 a c b d) && leb (n .rams) (heldBetween C 1 a c b d)
     && leb (n .multipliers) (heldBetween C 2 a c b d)
 

@@ -19,8 +19,8 @@ use Rattle.rules.specs.Shape.{ShapeAt, Listed}
 use Rattle.rules.specs.Slot.{slotStart, ListsAt, IsListOf}
 use Rattle.rules.specs.Choice.{Chosen}
 use Rattle.rules.specs.Edit.{Paired, changed}
-use Rattle.rules.specs.Design.{chipOf, nodes, root, SuitsOf, LawfulPlacement, OwnLists, rootSlot, GoesDown}
-use Rattle.rules.specs.Bytes.{Took, took, refuse, designAt, designOf}
+use Rattle.rules.specs.Design.{nodes, root, SuitsOf, LawfulPlacement, OwnLists, rootSlot, GoesDown, widthOf, heightOf}
+use Rattle.rules.specs.Bytes.{Took, took, refuse, designAt, chipFrom, designFrom}
 
 pub data Example : Type 0 where
   -- the root's list at a corner is these shapes
@@ -45,18 +45,18 @@ OneOf s (o ∷ os) = (s ≡ o) ⊎ OneOf s os
 abbrev pub PairsTo : Design → List ℕ → Tree → Type 0
 PairsTo d bytes (leaf t k) = ⊥
 PairsTo d bytes (cut t k l r) =
-    let W = d .width .0 in let H = d .height .0 in (lefts rights : Corner → ℕ → ℕ)
+    let W = widthOf d in let H = heightOf d in (lefts rights : Corner → ℕ → ℕ)
     → ListsAt W H (SuitsOf d) lefts l → ListsAt W H (SuitsOf d) rights r → IsListOf W (λ j. getD bytes j 0) (Paired W H k lefts rights (corner 0 0))
 
 unfoldable pub Says : Example → Type 0
-Says (lists d c shapes) = (s : Shape) → Listed (d .width .0) (d .height .0) (SuitsOf d) (root d) c s ↔ OneOf s shapes
-Says (contains d r n) = holds (chipOf d) r ≡ n
+Says (lists d c shapes) = (s : Shape) → Listed (widthOf d) (heightOf d) (SuitsOf d) (root d) c s ↔ OneOf s shapes
+Says (contains d r n) = holds (d .chip) r ≡ n
 Says (slotIs d start bytes) =
-    (slotStart (d .width .0) (d .height .0) (nodes d - 1) (corner 0 0) ≡ start)
-    × IsListOf (d .width .0) (λ j. getD bytes j 0) (ShapeAt (d .width .0) (d .height .0) (SuitsOf d) (root d) (corner 0 0))
+    (slotStart (widthOf d) (heightOf d) (nodes d - 1) (corner 0 0) ≡ start)
+    × IsListOf (widthOf d) (λ j. getD bytes j 0) (ShapeAt (widthOf d) (heightOf d) (SuitsOf d) (root d) (corner 0 0))
 Says (pairsTo d bytes) = PairsTo d bytes (root d)
 Says (plansTo d s rs) =
-    (slots : ℕ → Corner → ℕ → ℕ) → OwnLists d slots → Chosen (d .width .0) (rootSlot d slots) s
+    (slots : ℕ → Corner → ℕ → ℕ) → OwnLists d slots → Chosen (widthOf d) (rootSlot d slots) s
     × ((p : Placement) × GoesDown d slots s p) × ((p : Placement) → GoesDown d slots s p → (k : ℕ) → k < length rs → p k ≡ getD rs k (rectangle 0 0 0 0))
 Says (hasNone d) = (p : Placement) → LawfulPlacement d p → ⊥
 Says (reads s t) = designAt s ≡ t
@@ -66,7 +66,7 @@ abbrev pub need : ℕ → ℕ → ℕ → Need
 need a b c = record { clbs = a; rams = b; multipliers = c }
 
 abbrev pub design : List ℕ → ℕ → ℕ → List Need → List ℕ → Design
-design kinds h b needs tokens = designOf (length kinds) h b kinds (length needs) needs tokens
+design kinds h b needs tokens = designFrom (chipFrom (length kinds) h b kinds) (length needs) needs tokens
 
 -- "Chip E: kinds 0 1 2 0 0 four times, H 12, B 3, need (12,1,1)"; D; "four CLB columns, H 4, B 1, one module (12,0,0)"
 unfoldable pub E : Design

@@ -1,15 +1,21 @@
 -- 01, "Design bytes", with what it says of reading under "Numbered replies".
 use mathlib.Core.Bool.{Bool, true, false}
 use mathlib.Core.List.{List, [], _∷_, _++_}
-use Prim.Native.Nat.{ℕ, zero, suc, _+_, _-_, _*_, _/_, _%_}
+use Prim.Native.Nat.{ℕ, zero, suc, _+_, _-_, _*_, _/_, _%_, _<_}
 use lib.Dec.{leb, ltb, eqb}
 use lib.ListN.{length, getD, replicate}
 use Rattle.rules.specs.declared.Need.{Need}
+use Rattle.rules.specs.declared.Chip.{Chip}
 use Rattle.rules.specs.declared.Design.{Design}
 use Rattle.rules.specs.declared.Refusal.{Refusal}
 use Rattle.rules.specs.declared.Refusal.the-variants.{Unfinished, Malformed, WrongForm, BreaksLimits, BadToken, NotOneThing, ExtraBytes}
+use Rattle.rules.specs.Chip.{kindAt}
 use Rattle.rules.specs.Tree.{Tree, Standing, refused, things, tokenOf, after}
-use Rattle.rules.specs.Design.{mostColumns, mostRows, lawfulKind, mostModules, mostNumber, noNeed, kindAt, needAt, nodes, inRange, lawfulNeed}
+use Rattle.rules.specs.Design.{mostColumns, mostRows, lawfulKind, mostModules, mostTokens, mostNumber, noNeed, needAt, nodes, inRange, lawfulNeed, widthOf, heightOf}
+
+-- Bytes are numbers below 256.
+abbrev pub AreBytes : List ℕ → Type 0
+AreBytes s = (i : ℕ) → getD s i 0 < 256
 
 -- "Every number is written in groups of seven bits, low group first, the top bit set on every byte but the last. Only the
 -- shortest form is valid, at most three bytes, value at most 65,535."
@@ -72,8 +78,8 @@ rowBytes f a (suc n) = rowBytes f a n ++ f (a n)
 
 unfoldable pub designBytes : Design → List ℕ
 designBytes d =
-    numberBytes 1 ++ (numberBytes (d .width .0) ++ (numberBytes (d .height .0) ++ (numberBytes (d .block .0)
-    ++ (rowBytes numberBytes (kindAt d) (d .width .0)
+    numberBytes 1 ++ (numberBytes (widthOf d) ++ (numberBytes (heightOf d) ++ (numberBytes (d .chip .block .0)
+    ++ (rowBytes numberBytes (kindAt (d .chip)) (widthOf d)
     ++ (numberBytes (d .modules) ++ (rowBytes needBytes (needAt d) (d .modules)
     ++ rowBytes numberBytes (λ t. getD (d .tokens) t 0) (nodes d)))))))
 
@@ -118,15 +124,20 @@ tokensAt s m t (suc n) ts at =
 unfoldable pub padded : {A : Type 0} → ℕ → A → List A → List A
 padded size zeros xs = xs ++ replicate (size - length xs) zeros
 
-abbrev pub designOf : ℕ → ℕ → ℕ → List ℕ → ℕ → List Need → List ℕ → Design
-designOf w h b kinds m needs tokens = record {
+abbrev pub chipFrom : ℕ → ℕ → ℕ → List ℕ → Chip
+chipFrom w h b kinds = record {
   width = record { 0 = w };
   height = record { 0 = h };
   block = record { 0 = b };
   kinds = padded mostColumns 0 kinds;
+}
+
+abbrev pub designFrom : Chip → ℕ → List Need → List ℕ → Design
+designFrom chip m needs tokens = record {
+  chip = chip;
   modules = m;
   needs = padded mostModules noNeed needs;
-  tokens = padded (2 * mostModules - 1) 0 tokens;
+  tokens = padded mostTokens 0 tokens;
 }
 
 -- "Numbers are judged as they are read: 1 or 2 first, then 3, 4 or 5, then 6, then 7." 7: "bytes after the last token", at the
@@ -141,4 +152,4 @@ designAt s =
     andThen (limitedAt 1 mostModules s at-m) λ m at-needs.
     andThen (rowAt (needOf s) m at-needs) λ needs at-tokens.
     andThen (tokensAt s m 0 (2 * m - 1) [] at-tokens) λ tokens end.
-    judged (eqb end (length s)) (ExtraBytes end) (took (designOf w h b kinds m needs tokens) end)
+    judged (eqb end (length s)) (ExtraBytes end) (took (designFrom (chipFrom w h b kinds) m needs tokens) end)

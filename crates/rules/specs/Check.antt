@@ -1,7 +1,7 @@
 -- The checker's verdict: 01, "Numbered replies", 12 to 14.
 use mathlib.Core.Bool.{Bool, true, false, not, _&&_, _||_}
 use mathlib.Core.List.{List}
-use Prim.Native.Nat.{ℕ, _+_, _*_}
+use Prim.Native.Nat.{ℕ, _+_, _*_, _<_}
 use lib.Dec.{leb, ltb}
 use lib.ListN.{length, getD}
 use Rattle.rules.specs.declared.Need.{Need}
@@ -12,15 +12,39 @@ use Rattle.rules.specs.declared.Refusal.the-variants.{TooShort, OffTheCh
 use Rattle.rules.specs.declared.Reply.{Reply}
 use Rattle.rules.specs.declared.Reply.the-variants.{Done, Refused}
 use Rattle.rules.specs.Search.{all, least}
-use Rattle.rules.specs.Chip.{rectangle, right, top, holds}
+use Rattle.rules.specs.Chip.{OnChip, rectangle, right, top, holds}
 use Rattle.rules.specs.Tree.{Tree, leaf, cut, has}
-use Rattle.rules.specs.Placement.{Placement, begins, ends}
-use Rattle.rules.specs.Design.{chipOf, needAt, nodes, nodeAt, valueTest}
+use Rattle.rules.specs.Placement.{Placement, KeptAt, begins, ends}
+use Rattle.rules.specs.Design.{needAt, SuitsOf, nodes, nodeAt, valueTest, widthOf, heightOf}
 
 -- a floorplan from its rows: "four bytes x, y, w, h for each module, in module order"
 unfoldable pub fromRows : List ℕ → Placement
 fromRows rows k =
     rectangle (getD rows (4 * k) 0) (getD rows (4 * k + 1) 0) (getD rows (4 * k + 2) 0) (getD rows (4 * k + 3) 0)
+
+-- What the checker finds: module k has a rectangle on the chip that suits it
+pub record Fine (d : Design) (p : Placement) (k : ℕ) : Type 0 where
+  pub on-chip : OnChip (widthOf d) (heightOf d) (p k)
+  pub suits : SuitsOf d k (p k)
+
+-- "modules in order (12 before 13 for each), then cuts in token order": the first fault is module k off the chip, or on the chip and short of
+-- its need; or all modules are fine, and cut t is the first that is not kept
+pub record FirstOff (d : Design) (p : Placement) (k : ℕ) : Type 0 where
+  pub below : k < d .modules
+  pub before : (j : ℕ) → j < k → Fine d p j
+  pub fault : OnChip (widthOf d) (heightOf d) (p k) → ⊥
+
+pub record FirstShort (d : Design) (p : Placement) (k : ℕ) : Type 0 where
+  pub below : k < d .modules
+  pub before : (j : ℕ) → j < k → Fine d p j
+  pub on-chip : OnChip (widthOf d) (heightOf d) (p k)
+  pub fault : SuitsOf d k (p k) → ⊥
+
+pub record FirstNotKept (d : Design) (p : Placement) (t : ℕ) : Type 0 where
+  pub below : t < nodes d
+  pub fine : (k : ℕ) → k < d .modules → Fine d p k
+  pub before : (s : ℕ) → s < t → KeptAt p (nodeAt d s)
+  pub fault : KeptAt p (nodeAt d t) → ⊥
 
 -- the tests of a rectangle on the chip, of a suiting one, and of a cut that is kept
 unfoldable pub isOnChip : ℕ → ℕ → Rectangle → Bool
@@ -43,10 +67,10 @@ judgedCuts d p =
     elim (ltb t (nodes d)) [ true ↦ Refused (CutNotKept t) | false ↦ Done ]
 
 abbrev pub isOn : Design → Rectangle → Bool
-isOn d r = isOnChip (d .width .0) (d .height .0) r
+isOn d r = isOnChip (widthOf d) (heightOf d) r
 
 abbrev pub isSuited : Design → ℕ → Rectangle → Bool
-isSuited d k r = isAtMost (needAt d k) (holds (chipOf d) r)
+isSuited d k r = isAtMost (needAt d k) (holds (d .chip) r)
 
 unfoldable pub judgedRows : Design → Placement → Reply
 judgedRows d p =

@@ -1,32 +1,36 @@
 -- 01, "Chip, rectangles, needs".
+use mathlib.Core.Path.{_≡_}
 use mathlib.Core.Bool.{Bool, _&&_}
-use Prim.Native.Nat.{ℕ, zero, suc, _+_, _*_, _/_, _≤_}
+use Prim.Native.Nat.{ℕ, zero, suc, _+_, _*_, _/_, _≤_, _<_}
 use lib.Dec.{leb, ltb, eqb}
+use lib.ListN.{getD}
 use Rattle.rules.specs.Search.{count, total}
+use Rattle.rules.specs.declared.Chip.{Chip}
 use Rattle.rules.specs.declared.Corner.{Corner}
 use Rattle.rules.specs.declared.Shape.{Shape}
 use Rattle.rules.specs.declared.Rectangle.{Rectangle}
 use Rattle.rules.specs.declared.Need.{Need}
 
--- "Each column has a kind: 0 CLB, 1 RAM, 2 multiplier." Its blocks, `many` of them, are each `high` rows high, start at
--- row `first` and follow without gaps.
+-- "Columns are counted 0 to W-1 from the left, rows 0 to H-1 from below." "Each column has a kind: 0 CLB, 1 RAM, 2 multiplier."
+abbrev pub kindAt : Chip → ℕ → ℕ
+kindAt C x = getD (C .kinds) x 0
+
+-- What a column holds: its blocks, `many` of them, are each `high` rows high, start at row `first` and follow without gaps.
 pub record Column : Type 0 where
   pub kind : ℕ
   pub first : ℕ
   pub high : ℕ
   pub many : ℕ
 
--- "Columns are counted 0 to W-1 from the left, rows 0 to H-1 from below."
-pub record Chip : Type 0 where
-  pub width : ℕ
-  pub height : ℕ
-  pub column : ℕ → Column
-
 -- "A CLB column holds one CLB in each row. Blocks in kinds 1 and 2 are B rows high, start at row 0 and follow without gaps;
 -- rows above the last whole block hold nothing." Where a column's blocks start and how many there are is said here alone.
-unfoldable pub columnOf : ℕ → ℕ → ℕ → Column
-columnOf H B zero = record { kind = 0; first = 0; high = 1; many = H }
-columnOf H B (suc k) = record { kind = suc k; first = 0; high = B; many = H / B }
+unfoldable pub columnOf : Chip → ℕ → Column
+columnOf C zero = record { kind = 0; first = 0; high = 1; many = C .height .0 }
+columnOf C (suc k) = record { kind = suc k; first = 0; high = C .block .0; many = C .height .0 / C .block .0 }
+
+-- what column x holds; kinds and blocks' heights are asked for here alone
+unfoldable pub column : Chip → ℕ → Column
+column C x = columnOf C (kindAt C x)
 
 -- A rectangle (x, y, w, h), and its four sides: it takes the columns from `left` to before `right`, and the rows from
 -- `bottom` to before `top`.
@@ -62,11 +66,11 @@ pub record OnChip (W H : ℕ) (r : Rectangle) : Type 0 where
 unfoldable pub coversBlock : Column → ℕ → ℕ → ℕ → Bool
 coversBlock c low far j = leb low (c .first + j * c .high) && leb (c .first + suc j * c .high) far
 
--- how many blocks of kind k stand whole between the four sides
+-- how many blocks of kind k stand whole between four sides: the left side a, the bottom c, the right side b and the top d
 unfoldable pub heldBetween : Chip → ℕ → ℕ → ℕ → ℕ → ℕ → ℕ
 heldBetween C k a c b d =
-    total (C .width) (λ x. leb a x && ltb x b && eqb (C .column x .kind) k)
-    (λ x. count (C .column x .many) (coversBlock (C .column x) c d))
+    total (C .width .0) (λ x. leb a x && ltb x b && eqb (column C x .kind) k)
+    (λ x. count (column C x .many) (coversBlock (column C x) c d))
 
 -- what a rectangle holds of each kind; document 000's resource vector of a rectangle
 unfoldable pub holds : Chip → Rectangle → Need
@@ -85,3 +89,10 @@ pub record AtMost (n m : Need) : Type 0 where
 -- "A rectangle suits it if it holds at least that many of each."
 abbrev pub Suits : Chip → Need → Rectangle → Type 0
 Suits C n r = AtMost n (holds C r)
+
+-- "Places beyond W .. are ignored, also when two designs are called the same."
+pub record SameChip (C D : Chip) : Type 0 where
+  pub width : C .width ≡ D .width
+  pub height : C .height ≡ D .height
+  pub block : C .block ≡ D .block
+  pub kinds : (x : ℕ) → x < C .width .0 → kindAt C x ≡ kindAt D x

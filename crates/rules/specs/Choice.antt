@@ -51,7 +51,9 @@ Down W H Suits slots (cut t d l r) c whole p =
     × Down W H Suits slots l c s p × Down W H Suits slots r (beside d c s) o p
 
 -- "Rows out: four bytes x, y, w, h for each module, in module order"
+abbrev pub rowOf : Rectangle → List ℕ
+rowOf r = r .corner .x .0 ∷ r .corner .y .0 ∷ r .shape .w .0 ∷ r .shape .h .0 ∷ []
+
 unfoldable pub rowsOut : ℕ → Placement → List ℕ
 rowsOut zero p = []
-rowsOut (suc k) p = rowsOut k p
-    ++ (p k .corner .x .0 ∷ p k .corner .y .0 ∷ p k .shape .w .0 ∷ p k .shape .h .0 ∷ [])
+rowsOut (suc k) p = rowsOut k p ++ rowOf (p k)

@@ -4,18 +4,19 @@ use mathlib.Core.Bool.{Bool, true, false, not, _&&_}
 use mathlib.Core.List.{List, [], _∷_}
 use Prim.Native.Nat.{ℕ, suc, _-_, _*_, _<_}
 use lib.Dec.{leb, eqb}
-use lib.ListN.{getD}
+use lib.ListN.{length, getD}
 use Rattle.rules.specs.declared.Need.{Need}
 use Rattle.rules.specs.declared.Corner.{Corner}
 use Rattle.rules.specs.declared.Shape.{Shape}
 use Rattle.rules.specs.declared.Rectangle.{Rectangle}
+use Rattle.rules.specs.declared.Chip.{Chip}
 use Rattle.rules.specs.declared.Design.{Design}
 use Rattle.rules.specs.declared.Token.{Token}
 use Rattle.rules.specs.declared.Refusal.the-variants.{BreaksLimits, BadToken, NotOneThing}
 use Rattle.rules.specs.declared.Reply.{Reply}
 use Rattle.rules.specs.declared.Reply.the-variants.{Done, Refused}
 use Rattle.rules.specs.Search.{all}
-use Rattle.rules.specs.Chip.{Chip, corner, columnOf, Suits}
+use Rattle.rules.specs.Chip.{corner, kindAt, Suits, SameChip}
 use Rattle.rules.specs.Tree.{Tree, Standing, refused, things, tokenOf, standing, last}
 use Rattle.rules.specs.Placement.{Placement, Lawful}
 use Rattle.rules.specs.Slot.{slot, Stairs, FullLists}
@@ -35,12 +36,25 @@ lastKind = 2
 abbrev pub mostModules : ℕ
 mostModules = 16
 
+-- "2m-1 tokens", of the most modules
+abbrev pub mostTokens : ℕ
+mostTokens = 2 * mostModules - 1
+
 abbrev pub mostNumber : ℕ
 mostNumber = 65535
 
--- What stands in a design's places. Those beyond W, m and 2m-1 are ignored.
-abbrev pub kindAt : Design → ℕ → ℕ
-kindAt d x = getD (d .kinds) x 0
+-- A design's places: each of its three lists is as long as the array that it is. Every contract says so of the design that it speaks of.
+pub record Sized (d : Design) : Type 0 where
+  pub kinds : length (d .chip .kinds) ≡ mostColumns
+  pub needs : length (d .needs) ≡ mostModules
+  pub tokens : length (d .tokens) ≡ mostTokens
+
+-- W and H of a design's chip, and what stands in its places. Those beyond m and 2m-1 are ignored.
+abbrev pub widthOf : Design → ℕ
+widthOf d = d .chip .width .0
+
+abbrev pub heightOf : Design → ℕ
+heightOf d = d .chip .height .0
 
 abbrev pub noNeed : Need
 noNeed = record { clbs = 0; rams = 0; multipliers = 0 }
@@ -48,8 +62,24 @@ noNeed = record { clbs = 0; rams = 0; multipliers = 0 }
 abbrev pub needAt : Design → ℕ → Need
 needAt d k = getD (d .needs) k noNeed
 
+abbrev pub tokenIn : List ℕ → ℕ → Token
+tokenIn tokens t = tokenOf mostModules (getD tokens t 0)
+
 abbrev pub tokenAt : Design → ℕ → Token
-tokenAt d t = tokenOf mostModules (getD (d .tokens) t 0)
+tokenAt d t = tokenIn (d .tokens) t
+
+-- the design with another chip, other modules, other needs, or other tokens
+abbrev pub withChip : Design → Chip → Design
+withChip d chip = record { chip = chip; modules = d .modules; needs = d .needs; tokens = d .tokens }
+
+abbrev pub withModules : Design → ℕ → List Need → Design
+withModules d m needs = record { chip = d .chip; modules = m; needs = needs; tokens = d .tokens }
+
+abbrev pub withNeeds : Design → List Need → Design
+withNeeds d needs = withModules d (d .modules) needs
+
+abbrev pub withTokens : Design → List ℕ → Design
+withTokens d tokens = record { chip = d .chip; modules = d .modules; needs = d .needs; tokens = tokens }
 
 -- "2m-1 tokens", one for each node
 abbrev pub nodes : Design → ℕ
@@ -66,22 +96,19 @@ lawfulNeed n =
     leb (n .clbs) mostNumber && leb (n .rams) mostNumber && leb (n .multipliers) mostNumber
     && not (eqb (n .clbs) 0 && eqb (n .rams) 0 && eqb (n .multipliers) 0)
 
+-- a chip, and a design, within the limits
+unfoldable pub lawfulChip : Chip → Bool
+lawfulChip C =
+    inRange 1 mostColumns (C .width .0) && inRange 1 mostRows (C .height .0) && inRange 1 (C .height .0) (C .block .0)
+    && all (C .width .0) (λ x. lawfulKind (kindAt C x))
+
 unfoldable pub withinLimits : Design → Bool
 withinLimits d =
-    inRange 1 mostColumns (d .width .0) && inRange 1 mostRows (d .height .0) && inRange 1 (d .height .0) (d .block .0)
-    && all (d .width .0) (λ x. lawfulKind (kindAt d x))
-    && inRange 1 mostModules (d .modules) && all (d .modules) (λ k. lawfulNeed (needAt d k))
+    lawfulChip (d .chip) && inRange 1 mostModules (d .modules) && all (d .modules) (λ k. lawfulNeed (needAt d k))
 
--- The chip, the suiting and the tree of a design.
-unfoldable pub chipOf : Design → Chip
-chipOf d = record {
-  width = d .width .0;
-  height = d .height .0;
-  column = λ x. columnOf (d .height .0) (d .block .0) (kindAt d x);
-}
-
+-- The suiting and the tree of a design.
 abbrev pub SuitsOf : Design → ℕ → Rectangle → Type 0
-SuitsOf d k r = Suits (chipOf d) (needAt d k) r
+SuitsOf d k r = Suits (d .chip) (needAt d k) r
 
 -- what stands after the first n tokens; node t is what then stands last; "the last is the root"
 abbrev pub standingOf : Design → ℕ → Standing
@@ -95,24 +122,24 @@ root d = last (standingOf d (nodes d))
 
 -- a lawful placement of the design
 abbrev pub LawfulPlacement : Design → Placement → Type 0
-LawfulPlacement d p = Lawful (d .width .0) (d .height .0) (SuitsOf d) (root d) p
+LawfulPlacement d p = Lawful (widthOf d) (heightOf d) (SuitsOf d) (root d) p
 
 -- the slots of a design's nodes in work bytes; slots that are all stairs; slots that are the design's full lists
 abbrev pub slotsOf : Design → List ℕ → ℕ → Corner → ℕ → ℕ
-slotsOf d work = slot (d .width .0) (d .height .0) work
+slotsOf d work = slot (widthOf d) (heightOf d) work
 
 abbrev pub AllStairs : Design → (ℕ → Corner → ℕ → ℕ) → Type 0
-AllStairs d slots = Stairs (d .width .0) (d .height .0) (nodes d) slots
+AllStairs d slots = Stairs (widthOf d) (heightOf d) (nodes d) slots
 
 abbrev pub OwnLists : Design → (ℕ → Corner → ℕ → ℕ) → Type 0
-OwnLists d slots = FullLists (d .width .0) (d .height .0) (SuitsOf d) (nodeAt d) (nodes d) slots
+OwnLists d slots = FullLists (widthOf d) (heightOf d) (SuitsOf d) (nodeAt d) (nodes d) slots
 
 -- going down from a shape of the root at (0, 0)
 abbrev pub rootSlot : Design → (ℕ → Corner → ℕ → ℕ) → ℕ → ℕ
 rootSlot d slots = slots (nodes d - 1) (corner 0 0)
 
 abbrev pub GoesDown : Design → (ℕ → Corner → ℕ → ℕ) → Shape → Placement → Type 0
-GoesDown d slots s p = Down (d .width .0) (d .height .0) (SuitsOf d) slots (root d) (corner 0 0) s p
+GoesDown d slots s p = Down (widthOf d) (heightOf d) (SuitsOf d) slots (root d) (corner 0 0) s p
 
 -- 5: "token over m+1, module repeated, or cut with fewer than two things standing"; 6: "tokens used up and not exactly one
 -- thing stands"
@@ -133,10 +160,7 @@ LawfulDesign d = valueTest d ≡ Done
 
 -- "Places beyond W, m and 2m-1 in it are ignored, also when two designs are called the same."
 pub record SameDesign (d e : Design) : Type 0 where
-  pub width : d .width ≡ e .width
-  pub height : d .height ≡ e .height
-  pub block : d .block ≡ e .block
-  pub kinds : (x : ℕ) → x < d .width .0 → kindAt d x ≡ kindAt e x
+  pub chip : SameChip (d .chip) (e .chip)
   pub modules : d .modules ≡ e .modules
   pub needs : (k : ℕ) → k < d .modules → needAt d k ≡ needAt e k
   pub tokens : (t : ℕ) → t < nodes d → getD (d .tokens) t 0 ≡ getD (e .tokens) t 0

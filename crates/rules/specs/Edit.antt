@@ -2,53 +2,54 @@
 use mathlib.Core.Path.{_≡_}
 use mathlib.Core.Bool.{Bool, So, _&&_}
 use mathlib.Core.List.{List}
-use Prim.Native.Nat.{ℕ, _+_, _-_, _<_}
-use lib.Dec.{ltb, leb, eqb}
-use lib.ListN.{getD, set}
+use Prim.Native.Nat.{ℕ, _<_}
+use lib.Dec.{ltb}
+use lib.ListN.{set}
 use Rattle.rules.specs.declared.Corner.{Corner}
 use Rattle.rules.specs.declared.Shape.{Shape}
 use Rattle.rules.specs.declared.Rectangle.{Rectangle}
 use Rattle.rules.specs.declared.Direction.{Direction}
+use Rattle.rules.specs.declared.Direction.the-variants.{Vertical, Horizontal}
+use Rattle.rules.specs.declared.Token.{Token}
+use Rattle.rules.specs.declared.Token.the-variants.{Cut, Module, Beyond}
 use Rattle.rules.specs.declared.Design.{Design}
 use Rattle.rules.specs.declared.Edit.{Edit}
 use Rattle.rules.specs.declared.Edit.the-variants.{Change, Turn}
 use Rattle.rules.specs.Search.{least}
 use Rattle.rules.specs.Chip.{OnChip}
-use Rattle.rules.specs.Tree.{Tree, leaf, cut, position, spans}
+use Rattle.rules.specs.Tree.{Tree, leaf, cut, position, spans, numberOf, isCut, isModule}
 use Rattle.rules.specs.Shape.{ShapeAt}
 use Rattle.rules.specs.Slot.{slot, workNeeded, CornerOn, IsListOf, PastKept}
 use Rattle.rules.specs.Choice.{Pair}
-use Rattle.rules.specs.Design.{nodes, lawfulNeed, nodeAt, SuitsOf}
+use Rattle.rules.specs.Design.{widthOf, heightOf, withNeeds, withTokens, nodes, lawfulNeed, nodeAt, SuitsOf, mostModules, tokenAt}
 
 -- The edit names a module and brings a lawful need, or names a cut; otherwise it is refused with 11.
 unfoldable pub namesPlace : Design → Edit → Bool
 namesPlace d (Change k n) = ltb k (d .modules) && lawfulNeed n
-namesPlace d (Turn t) = ltb t (nodes d) && leb (getD (d .tokens) t 0) 1
+namesPlace d (Turn t) = ltb t (nodes d) && isCut (tokenAt d t)
+
+-- "turn the cut at position t into the other kind"; only a cut is turned
+abbrev pub other : Direction → Direction
+other Vertical = Horizontal
+other Horizontal = Vertical
+
+abbrev pub turned : Token → Token
+turned (Cut d) = Cut (other d)
+turned (Module k) = Module k
+turned Beyond = Beyond
 
 -- "hands the design back with that one change": the need of module k, or the cut at position t turned into the other kind
 unfoldable pub changed : Design → Edit → Design
-changed d (Change k n) = record {
-  width = d .width;
-  height = d .height;
-  block = d .block;
-  kinds = d .kinds;
-  modules = d .modules;
-  needs = set (d .needs) k n;
-  tokens = d .tokens;
-}
-changed d (Turn t) = record {
-  width = d .width;
-  height = d .height;
-  block = d .block;
-  kinds = d .kinds;
-  modules = d .modules;
-  needs = d .needs;
-  tokens = set (d .tokens) t (1 - getD (d .tokens) t 0);
-}
+changed d (Change k n) = withNeeds d (set (d .needs) k n)
+changed d (Turn t) = withTokens d (set (d .tokens) t (numberOf mostModules (turned (tokenAt d t))))
+
+-- the position of module k's leaf
+abbrev pub modulePosition : Design → ℕ → ℕ
+modulePosition d k = least (λ t. isModule k (tokenAt d t)) (nodes d) 0
 
 -- the changed node: the cut itself, or module k's leaf
 unfoldable pub changedNode : Design → Edit → ℕ
-changedNode d (Change k n) = least (λ t. eqb (getD (d .tokens) t 0) (k + 2)) (nodes d) 0
+changedNode d (Change k n) = modulePosition d k
 changedNode d (Turn t) = t
 
 -- "all pairings of the children's stored shapes in the pattern above .. that fit on the chip"
@@ -75,4 +76,4 @@ pub record Relisted (W H : ℕ) (Suits : ℕ → Rectangle → Type 0) (node : �
 -- the bytes that an edit leaves for the design that it hands back
 abbrev pub EditedLists : Design → Edit → List ℕ → List ℕ → Type 0
 EditedLists d e =
-    Relisted (d .width .0) (d .height .0) (SuitsOf (changed d e)) (nodeAt (changed d e)) (nodes d) (changedNode d e)
+    Relisted (widthOf d) (heightOf d) (SuitsOf (changed d e)) (nodeAt (changed d e)) (nodes d) (changedNode d e)

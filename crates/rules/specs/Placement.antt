@@ -27,6 +27,11 @@ ends Horizontal r = top r
 abbrev pub Kept : Direction → Tree → Tree → Placement → Type 0
 Kept d l r p = (i j : ℕ) → So (has l i) → So (has r j) → ends d (p i) ≤ begins d (p j)
 
+-- a node that is a cut is kept so
+abbrev pub KeptAt : Placement → Tree → Type 0
+KeptAt p (leaf t k) = Unit {0}
+KeptAt p (cut t d l r) = Kept d l r p
+
 -- "It follows the tree if at each .. cut .." Gaps are allowed.
 unfoldable pub Follows : Tree → Placement → Type 0
 Follows (leaf t k) p = Unit {0}

@@ -23,14 +23,14 @@ use Rattle.rules.specs.declared.Planned.the-variants as planned
 use Rattle.rules.specs.Placement.{Placement}
 use Rattle.rules.specs.Slot.{workNeeded, PastKept, Empty}
 use Rattle.rules.specs.Choice.{Chosen, rowsOut}
-use Rattle.rules.specs.Design.{nodes, valueTest, LawfulDesign, slotsOf, AllStairs, OwnLists, rootSlot, GoesDown}
+use Rattle.rules.specs.Design.{Sized, nodes, valueTest, LawfulDesign, slotsOf, AllStairs, OwnLists, rootSlot, GoesDown, widthOf, heightOf}
 use Rattle.rules.specs.Edit.{namesPlace, changed, EditedLists}
-use Rattle.rules.specs.Bytes.{Took, took, refuse, designBytes, designAt, designOf}
+use Rattle.rules.specs.Bytes.{Took, took, refuse, designBytes, designAt, chipFrom, designFrom}
 use Rattle.rules.specs.Check.{verdict}
 
 -- read. "The design that a refused reading hands back is all zeros."
 unfoldable pub zeros : Design
-zeros = designOf 0 0 0 [] 0 [] []
+zeros = designFrom (chipFrom 0 0 0 []) 0 [] []
 
 abbrev pub handed : Took Design → Handed
 handed (took d n) = record { reply = Done; design = d }
@@ -41,6 +41,7 @@ Reads s r = r ≡ handed (designAt s)
 
 -- write: "8, otherwise the byte count, bytes past it staying"
 pub record Writes (d : Design) (before : List ℕ) (r : Written) (after : List ℕ) : Type 0 where
+  pub sized : Sized d
   pub unlawful : (e : Refusal) → valueTest d ≡ Refused e → (r ≡ written.Refused e) × (after ≡ before)
   pub short : LawfulDesign d → length before < length (designBytes d) → (r ≡ written.Refused TooShort) × (after ≡ before)
   pub done : LawfulDesign d → length (designBytes d) ≤ length before
@@ -48,7 +49,7 @@ pub record Writes (d : Design) (before : List ℕ) (r : Written) (after : List �
 
 -- the work bytes that a design's lists take, and its rows
 abbrev pub workOf : Design → ℕ
-workOf d = workNeeded (d .width .0) (d .height .0) (nodes d)
+workOf d = workNeeded (widthOf d) (heightOf d) (nodes d)
 
 abbrev pub rowsOf : Design → ℕ
 rowsOf d = 4 * d .modules
@@ -61,33 +62,36 @@ pub record Enough (d : Design) (work rows : List ℕ) : Type 0 where
 
 -- list: 8
 pub record Lists (d : Design) (before : List ℕ) (r : Reply) (after : List ℕ) : Type 0 where
+  pub sized : Sized d
   pub unlawful : (e : Refusal) → valueTest d ≡ Refused e → (r ≡ Refused e) × (after ≡ before)
   pub short : LawfulDesign d → length before < workOf d → (r ≡ Refused TooShort) × (after ≡ before)
   pub done : LawfulDesign d → workOf d ≤ length before → (r ≡ Done) × PastKept (workOf d) before after × OwnLists d (slotsOf d after)
 
 -- plan: 8, 10; "after plan, work holds the full lists"
 pub record Plans (d : Design) (before rows : List ℕ) (r : Planned) (after rows' : List ℕ) : Type 0 where
+  pub sized : Sized d
   pub unlawful : (e : Refusal) → valueTest d ≡ Refused e → (r ≡ planned.Refused e) × (after ≡ before) × (rows' ≡ rows)
   pub short : LawfulDesign d → (length before < workOf d) ⊎ (length rows < rowsOf d)
       → (r ≡ planned.Refused TooShort) × (after ≡ before) × (rows' ≡ rows)
   pub listed : Enough d before rows → PastKept (workOf d) before after × OwnLists d (slotsOf d after)
-  pub none : Enough d before rows → Empty (d .width .0) (rootSlot d (slotsOf d after)) → (r ≡ planned.Refused NoPlacement) × (rows' ≡ rows)
+  pub none : Enough d before rows → Empty (widthOf d) (rootSlot d (slotsOf d after)) → (r ≡ planned.Refused NoPlacement) × (rows' ≡ rows)
   pub done : Enough d before rows → (s : Shape) (p : Placement)
-      → Chosen (d .width .0) (rootSlot d (slotsOf d after)) s → GoesDown d (slotsOf d after) s p
+      → Chosen (widthOf d) (rootSlot d (slotsOf d after)) s → GoesDown d (slotsOf d after) s p
       → (r ≡ Box s) × (rows' ≡ rowsOut (d .modules) p ++ drop (rowsOf d) rows)
 
 -- place: 8, 9, 10. "Place and edit give 9 if any slot of any node is not a stair. Place also gives 9 if a chosen shape has no pair
 -- below it or a leaf's shape does not suit." Work is only lent to be read.
 pub record Places (d : Design) (work rows : List ℕ) (r : Planned) (rows' : List ℕ) : Type 0 where
+  pub sized : Sized d
   pub unlawful : (e : Refusal) → valueTest d ≡ Refused e → (r ≡ planned.Refused e) × (rows' ≡ rows)
   pub short : LawfulDesign d → (length work < workOf d) ⊎ (length rows < rowsOf d) → (r ≡ planned.Refused TooShort) × (rows' ≡ rows)
   pub stranger : Enough d work rows → (AllStairs d (slotsOf d work) → ⊥) → (r ≡ planned.Refused Unreliable) × (rows' ≡ rows)
-  pub none : Enough d work rows → AllStairs d (slotsOf d work) → Empty (d .width .0) (rootSlot d (slotsOf d work))
+  pub none : Enough d work rows → AllStairs d (slotsOf d work) → Empty (widthOf d) (rootSlot d (slotsOf d work))
       → (r ≡ planned.Refused NoPlacement) × (rows' ≡ rows)
-  pub lost : Enough d work rows → AllStairs d (slotsOf d work) → (s : Shape) → Chosen (d .width .0) (rootSlot d (slotsOf d work)) s
+  pub lost : Enough d work rows → AllStairs d (slotsOf d work) → (s : Shape) → Chosen (widthOf d) (rootSlot d (slotsOf d work)) s
       → ((p : Placement) → GoesDown d (slotsOf d work) s p → ⊥) → (r ≡ planned.Refused Unreliable) × (rows' ≡ rows)
   pub done : Enough d work rows → AllStairs d (slotsOf d work) → (s : Shape) (p : Placement)
-      → Chosen (d .width .0) (rootSlot d (slotsOf d work)) s → GoesDown d (slotsOf d work) s p
+      → Chosen (widthOf d) (rootSlot d (slotsOf d work)) s → GoesDown d (slotsOf d work) s p
       → (r ≡ Box s) × (rows' ≡ rowsOut (d .modules) p ++ drop (rowsOf d) rows)
 
 -- edit: 11, 8, 9. "An edit hands the design back with that one change, or unchanged if refused."
@@ -95,6 +99,7 @@ abbrev pub Unchanged : Design → List ℕ → Handed → List ℕ → Refusal �
 Unchanged d before r after e = (r ≡ record { reply = Refused e; design = d }) × (after ≡ before)
 
 pub record Edits (d : Design) (e : Edit) (before : List ℕ) (r : Handed) (after : List ℕ) : Type 0 where
+  pub sized : Sized d
   pub unlawful : (f : Refusal) → valueTest d ≡ Refused f → Unchanged d before r after f
   pub unnamed : LawfulDesign d → (So (namesPlace d e) → ⊥) → Unchanged d before r after NoSuchEdit
   pub short : LawfulDesign d → So (namesPlace d e) → length before < workOf d → Unchanged d before r after TooShort
@@ -104,5 +109,6 @@ pub record Edits (d : Design) (e : Edit) (before : List ℕ) (r : Handed) (after
       → (r ≡ record { reply = Done; design = changed d e }) × EditedLists d e before after
 
 -- check
-abbrev pub Checks : Design → List ℕ → Reply → Type 0
-Checks d rows r = r ≡ verdict d rows
+pub record Checks (d : Design) (rows : List ℕ) (r : Reply) : Type 0 where
+  pub sized : Sized d
+  pub judged : r ≡ verdict d rows

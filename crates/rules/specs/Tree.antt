@@ -1,7 +1,7 @@
 -- 01, "The tree and what follows it": the tree.
 use mathlib.Core.Bool.{Bool, true, false, not, _&&_, _||_}
 use mathlib.Core.List.{List, [], _∷_}
-use Prim.Native.Nat.{ℕ, zero, suc}
+use Prim.Native.Nat.{ℕ, zero, suc, _+_}
 use lib.Dec.{ltb, eqb}
 use Rattle.rules.specs.declared.Direction.{Direction}
 use Rattle.rules.specs.declared.Direction.the-variants.{Vertical, Horizontal}
@@ -33,6 +33,24 @@ abbrev pub tokenOf : ℕ → ℕ → Token
 tokenOf most zero = Cut Vertical
 tokenOf most (suc zero) = Cut Horizontal
 tokenOf most (suc (suc k)) = elim (ltb k most) [ true ↦ Module k | false ↦ Beyond ]
+
+-- The number that a token is written as, the first one beyond where it names no module: `tokenOf` undoes it.
+abbrev pub numberOf : ℕ → Token → ℕ
+numberOf most (Cut Vertical) = 0
+numberOf most (Cut Horizontal) = 1
+numberOf most (Module k) = k + 2
+numberOf most Beyond = most + 2
+
+-- a cut's token; module k's
+abbrev pub isCut : Token → Bool
+isCut (Cut d) = true
+isCut (Module k) = false
+isCut Beyond = false
+
+abbrev pub isModule : ℕ → Token → Bool
+isModule k (Cut d) = false
+isModule k (Module j) = eqb j k
+isModule k Beyond = false
 
 -- What stands after some tokens, the last thing first; or a token was refused.
 pub data Standing : Type 0 where

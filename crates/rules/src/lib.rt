@@ -10,7 +10,7 @@ pub const LAST_KIND: u8 = 2;
 
 pub const MOST_MODULES: usize = 16;
 
-pub const MOST_TOKENS: usize = 31;
+pub const MOST_TOKENS: usize = 2 * MOST_MODULES - 1;
 
 pub const MOST_NUMBER: usize = 65535;
 
@@ -45,12 +45,17 @@ pub struct Need {
     pub multipliers: usize,
 }
 
-// A chip, the modules' needs and a slicing tree. Places beyond width, modules and 2 * modules - 1 are ignored.
-pub struct Design {
+// A chip: its columns and rows, how high its blocks are, and each column's kind. Places beyond width are ignored.
+pub struct Chip {
     pub width: Columns,
     pub height: Rows,
     pub block: Rows,
     pub kinds: [u8; MOST_COLUMNS],
+}
+
+// A chip, the modules' needs and a slicing tree. Places beyond modules and 2 * modules - 1 are ignored.
+pub struct Design {
+    pub chip: Chip,
     pub modules: usize,
     pub needs: [Need; MOST_MODULES],
     pub tokens: [u8; MOST_TOKENS],

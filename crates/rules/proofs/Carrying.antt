@@ -1,0 +1,134 @@
+-- A tree's lists, what goes down from them and what is relisted hang on what suits the tree's own modules. So for two
+-- designs called the same the same bytes are stairs, full lists and an edit's lists, and the same placements go down
+-- from them. Assumes nothing.
+use mathlib.Core.Path.{_≡_, refl, subst, subst₂, subst₃}
+use mathlib.Core.Logic.{inl, inr, _↔_}
+use mathlib.Core.Bool.{So}
+use mathlib.Core.List.{List}
+use Prim.Native.Nat.{ℕ, _<_}
+use Rattle.rules.specs.declared.Corner.{Corner}
+use Rattle.rules.specs.declared.Shape.{Shape}
+use Rattle.rules.specs.declared.Rectangle.{Rectangle}
+use Rattle.rules.specs.declared.Design.{Design}
+use Rattle.rules.specs.declared.Edit.{Edit}
+use Rattle.rules.specs.Chip.{corner}
+use Rattle.rules.specs.Tree.{Tree, leaf, cut, has}
+use Rattle.rules.specs.Placement.{Placement}
+use Rattle.rules.specs.Slot.{Empty, ListsAt, FullLists}
+use Rattle.rules.specs.Choice.{Chosen, Down, beside}
+use Rattle.rules.specs.Edit.{namesPlace, changed, changedNode, Relists, Relisted, EditedLists}
+use Rattle.rules.specs.Design.{Sized, nodes, nodeAt, root, SuitsOf, LawfulDesign, SameDesign, slotsOf, AllStairs, OwnLists, rootSlot, GoesDown, widthOf, heightOf}
+use Rattle.rules.proofs.Searching.{or-iff, eqb-iff}
+use Rattle.rules.proofs.Below.{Below}
+use Rattle.rules.proofs.Standing.{part-has}
+use Rattle.rules.proofs.Nodes.{lawful-tree, node-part}
+use Rattle.rules.proofs.Listing.{same-list}
+use Rattle.rules.proofs.Relisting.{realizes-same}
+use Rattle.rules.proofs.Changing.{edit-lawful, edit-keeps}
+use Rattle.rules.proofs.Same.{same-sym, width-same, height-same, nodes-same, suits-same, node-same, root-same, changed-node-same, changed-same}
+
+-- the same suits every module of a tree
+abbrev SuitAlike : (ℕ → Rectangle → Type 0) → (ℕ → Rectangle → Type 0) → Tree → Type 0
+SuitAlike S S' t = (k : ℕ) (r : Rectangle) → So (has t k) → S k r ↔ S' k r
+
+module _ (W H : ℕ) {S S' : ℕ → Rectangle → Type 0} where
+  lists-alike : (slots : Corner → ℕ → ℕ) (t : Tree) → SuitAlike S S' t → ListsAt W H S slots t → ListsAt W H S' slots t
+  lists-alike slots t f l c on =
+      same-list W (slots c) (slots c) (λ j h. refl)
+      (λ s. (realizes-same W H t (λ k r i. f k r i .0) _, realizes-same W H t (λ k r i. f k r i .1) _)) (l c on)
+
+  down-alike : (slots : ℕ → Corner → ℕ → ℕ) (t : Tree) → SuitAlike S S' t → (c : Corner) (s : Shape) (p : Placement)
+      → Down W H S slots t c s p → Down W H S' slots t c s p
+  unfolding Down has
+  down-alike slots (leaf t k) f c s p (x, e) = (f k (p k) (eqb-iff k k .1 refl) .0 x, e)
+  down-alike slots (cut t d l r) f c whole p (s, o, x, y, z) = (
+    s,
+    o,
+    x,
+    down-alike slots l (λ k b i. f k b (or-iff (has l k) (has r k) .1 (inl i))) c s p y,
+    down-alike slots r (λ k b i. f k b (or-iff (has l k) (has r k) .1 (inr i))) (beside d c s) o p z,
+  )
+
+  relists-alike : (work : List ℕ) (t : Tree) → SuitAlike S S' t → (c : Corner) (s : Shape)
+      → Relists W H S work t c s ↔ Relists W H S' work t c s
+  relists-alike work (leaf t k) f c s =
+      (realizes-same W H (leaf t k) (λ k r i. f k r i .0) _, realizes-same W H (leaf t k) (λ k r i. f k r i .1) _)
+  relists-alike work (cut t d l r) f c s = (λ x. x, λ x. x)
+
+  relisted-alike : (node node' : ℕ → Tree) (n at : ℕ) (before after : List ℕ) → Below n node node'
+      → ((t : ℕ) → t < n → SuitAlike S S' (node t))
+      → Relisted W H S node n at before after → Relisted W H S' node' n at before after
+  relisted-alike node node' n at before after e f x = record {
+    way = λ t c h on i.
+        let x' = x .way t c h on (rw (e t h) i) in
+        rw (← e t h) (same-list W _ _ (λ j k. refl) (relists-alike after (node t) (f t h) c) x');
+    off = λ t c h on o. x .off t c h on (λ i. o (rw (e t h) at i));
+    past = x .past;
+  }
+
+module _ {d e : Design} (z : SameDesign d e) where
+  pub stairs-same : (slots : ℕ → Corner → ℕ → ℕ) → AllStairs d slots → AllStairs e slots
+  stairs-same slots st = rw (width-same z, height-same z, nodes-same z) at st
+
+  module _ (lawful : LawfulDesign d) where
+    -- a lawful design's trees have modules below m, and the same suits those
+    root-alike : SuitAlike (SuitsOf d) (SuitsOf e) (root d)
+    root-alike k r i =
+        let h = lawful-tree d lawful .modules k .0 i in
+        (suits-same z k h r, suits-same (same-sym z) k (rw (← z .modules) h) r)
+
+    node-alike : (t : ℕ) → t < nodes d → SuitAlike (SuitsOf d) (SuitsOf e) (nodeAt d t)
+    node-alike t h k r i = root-alike k r (part-has (node-part d lawful t h) k i)
+
+    pub own-same : (slots : ℕ → Corner → ℕ → ℕ) → OwnLists d slots → OwnLists e slots
+    own-same slots own =
+        let W = widthOf d in let H = heightOf d in
+        let each : FullLists W H (SuitsOf e) (nodeAt e) (nodes d) slots
+        = λ t h. rw (← node-same z t h) (lists-alike W H (slots t) (nodeAt d t) (node-alike t h) (own t h)) in
+        subst₃ (λ w h n. FullLists w h (SuitsOf e) (nodeAt e) n slots)
+        (width-same z) (height-same z) (nodes-same z) each
+
+    pub down-same : (slots : ℕ → Corner → ℕ → ℕ) (s : Shape) (p : Placement)
+        → GoesDown d slots s p → GoesDown e slots s p
+    down-same slots s p x =
+        subst₃ (λ W H t. Down W H (SuitsOf e) slots t (corner 0 0) s p) (width-same z) (height-same z) (root-same z)
+        (down-alike (widthOf d) (heightOf d) slots (root d) root-alike (corner 0 0) s p x)
+
+-- the same of the slots in work, and of the root's slot there
+module _ {d e : Design} (z : SameDesign d e) (work : List ℕ) where
+  slots-same : slotsOf d work ≡ slotsOf e work
+  slots-same = rw (width-same z, height-same z)
+
+  pub work-stairs : AllStairs d (slotsOf d work) → AllStairs e (slotsOf e work)
+  work-stairs st = subst (AllStairs e) slots-same (stairs-same z (slotsOf d work) st)
+
+  pub work-own : LawfulDesign d → OwnLists d (slotsOf d work) → OwnLists e (slotsOf e work)
+  work-own l own = subst (OwnLists e) slots-same (own-same z l (slotsOf d work) own)
+
+  pub work-down : LawfulDesign d → (s : Shape) (p : Placement)
+      → GoesDown d (slotsOf d work) s p → GoesDown e (slotsOf e work) s p
+  work-down l s p x = subst (λ slots. GoesDown e slots s p) slots-same (down-same z l (slotsOf d work) s p x)
+
+  root-slot-same : rootSlot d (slotsOf d work) ≡ rootSlot e (slotsOf e work)
+  root-slot-same = rw (slots-same, nodes-same z)
+
+  pub work-empty : Empty (widthOf d) (rootSlot d (slotsOf d work)) → Empty (widthOf e) (rootSlot e (slotsOf e work))
+  work-empty = subst₂ Empty (width-same z) root-slot-same
+
+  pub work-chosen : (s : Shape)
+      → Chosen (widthOf d) (rootSlot d (slotsOf d work)) s → Chosen (widthOf e) (rootSlot e (slotsOf e work)) s
+  work-chosen s = subst₂ (λ W bytes. Chosen W bytes s) (width-same z) root-slot-same
+
+-- an edit's lists; the place that it names has to stand in both designs' arrays
+module _ {d e : Design} (z : SameDesign d e) (lawful : LawfulDesign d) (sized : Sized d) (sized' : Sized e) where
+  pub edited-same : (c : Edit) → So (namesPlace d c) → (before after : List ℕ)
+      → EditedLists d c before after → EditedLists e c before after
+  edited-same c names before after x =
+      let y = changed-same z lawful sized sized' c names in let lawful' = edit-lawful d lawful c names in
+      let d' = changed d c in let e' = changed e c in let k : nodes d' ≡ nodes d = edit-keeps d c .nodes-same in
+      let at = changedNode d c in
+      let relisted = relisted-alike (widthOf d) (heightOf d) (nodeAt d') (nodeAt e') (nodes d) at before after
+      (λ t h. node-same y t (rw k h)) (λ t h. node-alike y lawful' t (rw k h)) x in
+      rw (← changed-node-same z c)
+      (subst₃ (λ W H n. Relisted W H (SuitsOf e') (nodeAt e') n at before after)
+      (width-same z) (height-same z) (nodes-same z) relisted)
