@@ -15,7 +15,7 @@ use Rattle.rules.specs.declared.Token.the-variants.{Cut, Module}
 use Rattle.rules.specs.declared.Design.{Design}
 use Rattle.rules.specs.Tree.{Tree, leaf, cut, has, Standing, refused, things, standing, last}
 use Rattle.rules.specs.Placement.{Placement}
-use Rattle.rules.specs.Design.{mostModules, tokenAt, nodes, standingOf, nodeAt, LawfulDesign}
+use Rattle.rules.specs.Design.{mostModules, tokenAt, nodes, standingOf, nodeAt, LawfulDesign, mostTokens}
 use Rattle.rules.specs.Check.{keptAt}
 use Rattle.rules.proofs.Searching.{or-iff}
 use Rattle.rules.proofs.Standing.{part-has, Reading, module-read, cut-read, earlier, read-stands}
@@ -72,7 +72,7 @@ stacked-top p u us es e h q s = (getD-set-same es (length us) e nowhere h ∙ q,
 
 -- the pass has come to position t, where these things stand
 pub record Passed (p : Placement) (t : ℕ) (us : List Tree) (s : Pass) : Type 0 where
-  pub long : length (s .extents) ≡ 2 * mostModules - 1
+  pub long : length (s .extents) ≡ mostTokens
   pub high : s .standing ≡ length us
   pub few : length us ≤ t
   pub stacked : Stacked p us (s .extents)
@@ -82,7 +82,7 @@ unfolding Stacked atStart
 passed-none p = record { long = refl; high = refl; few = omega arith; stacked = tt }
 
 module _ (d : Design) (p : Placement) {t : ℕ} {s : Pass} where
-  next : {us vs : List Tree} → Step d t us vs → t < 2 * mostModules - 1 → Passed p t us s → Passed p (suc t) vs (afterToken p s (tokenAt d t))
+  next : {us vs : List Tree} → Step d t us vs → t < mostTokens → Passed p t us s → Passed p (suc t) vs (afterToken p s (tokenAt d t))
   unfolding Stacked
   next (module-stands {k = k} {ts = ts} e b) h P =
       let q = P .high in let f = P .few in let g = P .long in
@@ -112,7 +112,7 @@ module _ (d : Design) (p : Placement) {t : ℕ} {s : Pass} where
       (λ i u. below i (or-iff (has l i) (has r i) .1 (inl u))) (λ i u. below i (or-iff (has l i) (has r i) .1 (inr u))))
 
   ready-for : (rows : List ℕ) → d .modules ≤ mostModules → 4 * d .modules ≤ length rows → {us vs : List Tree} → Step d t us vs
-      → t < 2 * mostModules - 1 → Passed p t us s → Ready rows (s .standing) (tokenAt d t)
+      → t < mostTokens → Passed p t us s → Ready rows (s .standing) (tokenAt d t)
   ready-for rows m l (module-stands e b) h P = rw e (omega (arith, P .high, P .few))
   ready-for rows m l (cut-joins e) h P = rw e (omega (arith, P .high, P .few))
 
@@ -126,7 +126,7 @@ unfolding standing
 passed-start d p = passed-none p
 
 module _ (d : Design) (lawful : LawfulDesign d) (p : Placement) {t : ℕ} {s : Pass} (h : t < nodes d) (P : PassedAt d p t s) where
-  short : t < 2 * mostModules - 1
+  short : t < mostTokens
   short = let m = limits d lawful .modules in omega arith
 
   pub is-ready : {token : Token} → token ≡ tokenAt d t → (rows : List ℕ) → 4 * d .modules ≤ length rows → Ready rows (s .standing) token

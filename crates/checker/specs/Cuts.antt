@@ -10,7 +10,7 @@ use Rattle.rules.specs.declared.Token.{Token}
 use Rattle.rules.specs.declared.Token.the-variants.{Cut, Module, Beyond}
 use Rattle.rules.specs.Chip.{corner, left, right, bottom, top}
 use Rattle.rules.specs.Placement.{Placement}
-use Rattle.rules.specs.Design.{mostModules}
+use Rattle.rules.specs.Design.{mostModules, mostTokens}
 use Rattle.rules.proofs.Test.{across}
 use Rattle.checker.specs.declared.Extent.{Extent}
 use Rattle.checker.specs.declared.Pass.{Pass}
@@ -36,7 +36,7 @@ abbrev pub nowhere : Extent
 nowhere = extent 0 0 0 0
 
 unfoldable pub atStart : Pass
-atStart = record { extents = replicate (2 * mostModules - 1) nowhere; standing = 0; kept = true }
+atStart = record { extents = replicate mostTokens nowhere; standing = 0; kept = true }
 
 -- a module stands
 abbrev pub afterModule : Pass → Extent → Pass
@@ -55,6 +55,6 @@ afterToken p s Beyond = s
 
 -- there is room for what the token adds, and what it joins stands
 abbrev pub Ready : List ℕ → ℕ → Token → Type 0
-Ready rows standing (Cut d) = (2 ≤ standing) × (standing < 2 * mostModules)
-Ready rows standing (Module k) = (standing < 2 * mostModules - 1) × (k < mostModules) × (4 * k + 3 < length rows)
+Ready rows standing (Cut d) = (2 ≤ standing) × (standing ≤ mostTokens)
+Ready rows standing (Module k) = (standing < mostTokens) × (k < mostModules) × (4 * k + 3 < length rows)
 Ready rows standing Beyond = Unit {0}

@@ -1,6 +1,5 @@
 // The checker's judgement of a floorplan: from the design and the rows alone, with no lists.
 use holding::suits;
-use lawful::token_of;
 use rules::Columns;
 use rules::Corner;
 use rules::Design;
@@ -12,10 +11,11 @@ use rules::Reply;
 use rules::Rows;
 use rules::Shape;
 use rules::Token;
+use tokens::token_of;
 ghost use mathlib.Core.Path.{_≡_};
 ghost use Prim.Native.Nat.{_+_, _*_, _-_, _≤_, _<_, min, max};
 ghost use lib.ListN.{length};
-ghost use Rattle.rules.specs.Design.{mostModules, LawfulDesign};
+ghost use Rattle.rules.specs.Design.{mostModules, LawfulDesign, mostTokens};
 ghost use Rattle.rules.specs.Check.{fromRows, isOnChip, judgedCuts, judgedRows};
 ghost use Rattle.checker.specs.Modules.{Bytes, judgedModule};
 ghost use Rattle.checker.specs.Cuts.{extentOf, together, endsBefore, atStart, afterModule, afterCut, afterToken, Ready};
@@ -73,7 +73,7 @@ fn judge_module(d: Design, rows: &[u8], k: usize) -> Reply
     ensures { λ r. ⌜ r ≡ judgedModule d (fromRows (now (rows .entry))) k ⌝ }
 {
     let r = rectangle_at(rows, k);
-    if !is_on_chip(d.width, d.height, r) {
+    if !is_on_chip(d.chip.width, d.chip.height, r) {
         return Reply::Refused(Refusal::OffTheChip(k));
     }
     if !suits(d, k, r) {
@@ -150,7 +150,7 @@ fn is_kept(direction: Direction, l: Extent, r: Extent) -> bool
 
 // The pass after a module's token: its extent is put on top.
 fn after_module(pass: Pass, extent: Extent) -> Pass
-    requires { ⌜ pass .standing < 2 * mostModules - 1 ⌝ }
+    requires { ⌜ pass .standing < mostTokens ⌝ }
     ensures { λ r. ⌜ r ≡ afterModule pass extent ⌝ }
 {
     let standing = pass.standing;
@@ -165,7 +165,7 @@ fn after_module(pass: Pass, extent: Extent) -> Pass
 
 // The pass after a cut's token: it joins the two things standing last, and is kept or not.
 fn after_cut(pass: Pass, direction: Direction) -> Pass
-    requires { ⌜ (2 ≤ pass .standing) × (pass .standing < 2 * mostModules) ⌝ }
+    requires { ⌜ (2 ≤ pass .standing) × (pass .standing ≤ mostTokens) ⌝ }
     ensures { λ r. ⌜ r ≡ afterCut pass direction ⌝ }
 {
     let standing = pass.standing;

@@ -3,7 +3,7 @@
 -- its children theirs, which then stand in its place. Assumes nothing.
 use mathlib.Core.Path.{_≡_, refl, sym, _∙_}
 use mathlib.Core.Logic.{⊎-elim, inl, inr, _↔_}
-use mathlib.Core.Bool.{Bool, true, false, _&&_, _||_, So}
+use mathlib.Core.Bool.{Bool, true, false, _&&_, So}
 use mathlib.Core.List.{List, [], _∷_}
 use Prim.Native.Nat.{ℕ, zero, suc, _-_, _*_, _≤_, _<_}
 use native.Mathlib.Omega.{arith}
@@ -19,10 +19,10 @@ use Rattle.rules.specs.declared.Design.{Design}
 use Rattle.rules.specs.Chip.{corner}
 use Rattle.rules.specs.Tree.{Tree, leaf, cut, position, has, stands}
 use Rattle.rules.specs.Choice.{beside}
-use Rattle.rules.specs.Design.{mostModules, nodes, root, LawfulDesign}
+use Rattle.rules.specs.Design.{mostModules, tokenIn, nodes, root, LawfulDesign}
 use Rattle.rules.proofs.Test.{leftShape, rightShape, hasPair, goesDown, laid}
 use Rattle.rules.proofs.Searching.{absurd-so, and-iff, or-iff, eqb-iff, same-test}
-use Rattle.rules.proofs.Standing.{Once, Part, whole, in-left, in-right, Among, here, there, Reading, none-read, module-read, cut-read, last-is, last-position}
+use Rattle.rules.proofs.Standing.{Once, Part, whole, in-left, in-right, Among, here, there, joined-among, joined-stands, Reading, none-read, module-read, cut-read, last-is, last-position}
 use Rattle.rules.proofs.Nodes.{modules-within, lawful-tree}
 use Rattle.rules.proofs.Placing.{merge-left, merge-right}
 use Rattle.slots.specs.declared.Board.{Board}
@@ -30,7 +30,7 @@ use Rattle.choosing.specs.declared.Pair.{Pair}
 use Rattle.choosing.specs.declared.Pair.the-variants.{Taken, None}
 use Rattle.choosing.specs.declared.Descent.{Descent}
 use Rattle.choosing.specs.Choose.{takenIf, pairOf, pairIn}
-use Rattle.choosing.specs.Descend.{nowhere, roomOf, placeOf, firstDescent, downLeaf, givenRooms, downPair, tokenIn, downNode, descended, Settled, Lefts, anySuits, LaidOut, LaysOut}
+use Rattle.choosing.specs.Descend.{nowhere, roomOf, placeOf, firstDescent, downLeaf, givenRooms, downPair, downNode, descended, Settled, Lefts, anySuits, LaidOut, LaysOut}
 use Rattle.choosing.proofs.Steps.{cut-pair, token-settled}
 
 -- something holds of each thing standing
@@ -65,18 +65,6 @@ unfolding Once
 once-part whole o = o
 once-part (in-left p) o = once-part p (o .0)
 once-part (in-right p) o = once-part p (o .1)
-
-joined-among : {u l r : Tree} {t : ℕ} {d : Direction} {ts : List Tree} → Among u (r ∷ (l ∷ ts)) → Among u (cut t d l r ∷ ts)
-joined-among (here p) = here (in-right p)
-joined-among (there (here p)) = here (in-left p)
-joined-among (there (there a)) = there a
-
-joined-stands : (t : ℕ) (d : Direction) (l r : Tree) (ts : List Tree) (k : ℕ) → So (stands (r ∷ (l ∷ ts)) k) → So (stands (cut t d l r ∷ ts) k)
-unfolding stands has
-joined-stands t d l r ts k s =
-    ⊎-elim (λ i. or-iff (has l k || has r k) (stands ts k) .1 (inl (or-iff (has l k) (has r k) .1 (inr i))))
-    (λ j. ⊎-elim (λ i. or-iff (has l k || has r k) (stands ts k) .1 (inl (or-iff (has l k) (has r k) .1 (inl i)))) (λ i. or-iff (has l k || has r k) (stands ts k) .1 (inr i))
-    (or-iff (has l k) (stands ts k) .0 j)) (or-iff (has r k) (has l k || stands ts k) .0 s)
 
 -- the arrays' lengths
 record Sized (e : Descent) : Type 0 where
@@ -190,7 +178,7 @@ module _ (board : Board) (slots : ℕ → Corner → ℕ → ℕ) where
               λ j s. cut-lies (placeOf (end .places) j) j s (λ i. rw on at (yl j i)) (λ i. rw or at (yr j i)),
               each-below _ (Lies e (end .places)) (position l) ts (λ u a y j s. rw (given-other (position u) a h) at (y j s)) f ys,
             );
-            others = λ o j g. C .others o j (λ s. g (joined-stands n d l r ts j s));
+            others = λ o j g. C .others o j (λ s. g (rw (joined-stands n d l r ts j) at s));
             back = λ o (g, gs). let (p, a, b) = cut-goes .0 g in C .back o (
               rw or b,
               (rw on a, each-below (Goes e) _ (position l) ts (λ u a g. rw (given-other (position u) a h) g) f gs),

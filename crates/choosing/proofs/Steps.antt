@@ -9,7 +9,7 @@ use native.Mathlib.Decide.{decLt, ℕ-discrete}
 use lib.Dec.{ltb}
 use lib.ListN.{length, getD, set, replicate}
 use lib.Seq.{getD-set-same, getD-set-other, set-out}
-use borrow.Author.Tests.{lt-ltb, le-ltb, ltb-true}
+use borrow.Author.Tests.{lt-ltb, le-ltb}
 use Rattle.rules.specs.declared.Corner.{Corner}
 use Rattle.rules.specs.declared.Shape.{Shape}
 use Rattle.rules.specs.declared.Rectangle.{Rectangle}
@@ -17,7 +17,6 @@ use Rattle.rules.specs.declared.Direction.{Direction}
 use Rattle.rules.specs.declared.Token.{Token}
 use Rattle.rules.specs.declared.Token.the-variants.{Cut, Module, Beyond}
 use Rattle.rules.specs.Chip.{corner}
-use Rattle.rules.specs.Tree.{tokenOf}
 use Rattle.rules.specs.Choice.{beside}
 use Rattle.rules.specs.Design.{mostModules}
 use Rattle.slots.specs.declared.Board.{Board}
@@ -47,16 +46,6 @@ module _ (board : Board) (slots : ℕ → Corner → ℕ → ℕ) (d : Direction
       → p ≡ Taken s o → b ≡ beside d (roomOf e t .corner) s
       → r ≡ givenRooms l (record { corner = roomOf e t .corner; shape = s }) (t - 1) (record { corner = b; shape = o }) e → r ≡ downCut board slots d l t e
   cut-with h q n x f = rw x at f ∙ sym (rw n at (cut-pair (omega arith) (omega arith) q))
-
--- a token's module has a place
-pub module-below : (v k : ℕ) → tokenOf mostModules v ≡ Module k → k < mostModules
-module-below zero k e = let z : _≡_ {A = ℕ} 0 1 = cc in absurd (omega arith)
-module-below (suc zero) k e = let z : _≡_ {A = ℕ} 0 1 = cc in absurd (omega arith)
-module-below (suc (suc j)) k e = go (ltb j mostModules) refl e
-  where
-    go : (b : Bool) → ltb j mostModules ≡ b → elim b as (λ _. Token) [ true ↦ Module j | false ↦ Beyond ] ≡ Module k → k < mostModules
-    go true h e = let q : j ≡ k = cc in rw q at (ltb-true j mostModules h)
-    go false h e = let z : _≡_ {A = ℕ} 0 1 = cc in absurd (omega arith)
 
 -- every corner given is one of the chip
 set-keeps : (P : Rectangle → Type 0) (xs : List Rectangle) (i : ℕ) (v : Rectangle) → ((t : ℕ) → P (getD xs t nowhere)) → P v

@@ -13,9 +13,9 @@ use Rattle.rules.specs.declared.Token.{Token}
 use Rattle.rules.specs.declared.Token.the-variants.{Cut, Module, Beyond}
 use Rattle.rules.specs.declared.Design.{Design}
 use Rattle.rules.specs.Chip.{corner, rectangle}
-use Rattle.rules.specs.Tree.{Tree, cut, position, tokenOf}
+use Rattle.rules.specs.Tree.{Tree, cut, position}
 use Rattle.rules.specs.Choice.{beside}
-use Rattle.rules.specs.Design.{mostModules, nodes, nodeAt, root, LawfulDesign}
+use Rattle.rules.specs.Design.{mostModules, tokenIn, nodes, nodeAt, root, LawfulDesign}
 use Rattle.rules.proofs.Test.{goesDown, laid}
 use Rattle.slots.specs.declared.Board.{Board}
 use Rattle.choosing.specs.declared.Pair.{Pair}
@@ -72,9 +72,6 @@ abbrev pub downToken : Board → (ℕ → Corner → ℕ → ℕ) → Token → 
 downToken board slots (Cut d) l t e = downCut board slots d l t e
 downToken board slots (Module k) l t e = downLeaf k t e
 downToken board slots Beyond l t e = stoppedAt e
-
-abbrev pub tokenIn : List ℕ → ℕ → Token
-tokenIn tokens t = tokenOf mostModules (getD tokens t 0)
 
 abbrev pub downNode : Board → (ℕ → Corner → ℕ → ℕ) → List ℕ → List ℕ → ℕ → Descent → Descent
 downNode board slots tokens lefts t e = downToken board slots (tokenIn tokens t) (getD lefts t 0) t e

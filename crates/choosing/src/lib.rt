@@ -10,7 +10,6 @@ ghost use Rattle.rules.specs.Design.{mostColumns, mostModules};
 ghost use Rattle.choosing.specs.Choose.{Ready, OnBoard, Near, slotsIn, Storable, bytesFrom, shapeAt, chosenShape, betterOf};
 ghost use Rattle.choosing.specs.Choose.{pairIn, takenIf, firstOf, firstPair, makesWhole, pairAt, pairWith};
 ghost use Rattle.choosing.specs.Descend.{firstDescent, stoppedAt, downLeaf, givenRooms, downCut, downToken, Settled, LaysOut};
-use lawful::token_of;
 use rules::Columns;
 use rules::Corner;
 use rules::Direction;
@@ -22,6 +21,7 @@ use rules::Shape;
 use rules::Token;
 use slots::Board;
 use slots::slot_start;
+use tokens::token_of;
 
 // What the search for a pair finds: the left child's shape and the right child's, or none.
 pub enum Pair {

@@ -2,6 +2,11 @@
 use lawful::lawful_need;
 use rules::Design;
 use rules::Edit;
+use rules::Token;
+use tokens::byte_of_cut;
+use tokens::is_cut;
+use tokens::other;
+use tokens::token_of;
 ghost use mathlib.Core.Path.{_≡_};
 ghost use mathlib.Core.Bool.{So};
 ghost use Rattle.rules.specs.Design.{LawfulDesign};
@@ -15,7 +20,7 @@ pub fn names_place(design: Design, edit: Edit) -> bool
     match edit {
         Edit::Change { module, need } => module < design.modules && lawful_need(need),
         Edit::Turn { position } => {
-            position < 2 * design.modules - 1 && design.tokens[position] <= 1
+            position < 2 * design.modules - 1 && is_cut(token_of(design.tokens[position]))
         }
     }
 }
@@ -31,7 +36,11 @@ pub fn with_change(design: Design, edit: Edit) -> Design
             next.needs[module] = need;
         }
         Edit::Turn { position } => {
-            next.tokens[position] = 1 - next.tokens[position];
+            let token = token_of(next.tokens[position]);
+            let Token::Cut(cut) = token else {
+                return design;
+            };
+            next.tokens[position] = byte_of_cut(other(cut));
         }
     }
     next

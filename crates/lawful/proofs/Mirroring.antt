@@ -18,6 +18,7 @@ use Rattle.rules.specs.Tree.{Tree, leaf, has, Standing, refused, things, stands
 use Rattle.rules.specs.declared.Refusal.the-variants.{BadToken, NotOneThing}
 use Rattle.rules.specs.declared.Reply.the-variants.{Done, Refused}
 use Rattle.rules.specs.Design.{mostModules, treeTest}
+use Rattle.rules.proofs.Standing.{joined-stands}
 use Rattle.lawful.specs.declared.Stack.{Stack}
 use Rattle.lawful.specs.declared.Step.{Step}
 use Rattle.lawful.specs.Stack.{emptyStack, refuses, passes, afterCut, afterModule, afterToken, Mirrors, Agrees}
@@ -41,15 +42,9 @@ cut-agrees t d s (r ∷ (l ∷ ts)) M =
       record {
         size = M .size;
         count = omega arith;
-        seen = λ k h. M .seen k h ∙ regrouped (has r k) (has l k) (stands ts k);
+        seen = λ k h. M .seen k h ∙ joined-stands t d l r ts k;
       },
     )
-  where
-    regrouped : (x y z : Bool) → x || (y || z) ≡ (y || x) || z
-    regrouped true true z = refl
-    regrouped true false z = refl
-    regrouped false true z = refl
-    regrouped false false z = refl
 
 module-agrees : (m t k : ℕ) (s : Stack) (ts : List Tree) → m ≤ mostModules → Mirrors s ts
     → Agrees (afterModule m k s) (added m t k ts)

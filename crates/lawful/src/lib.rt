@@ -3,12 +3,12 @@ ghost use mathlib.Core.Path.{_≡_};
 ghost use Prim.Native.Nat.{_*_, _≤_, _<_};
 ghost use lib.Dec.{leb};
 ghost use Rattle.rules.specs.Search.{all};
-ghost use Rattle.rules.specs.Tree.{tokenOf};
-ghost use Rattle.rules.specs.Design.{mostColumns, lastKind, mostModules, kindAt, needAt, nodes, standingOf};
-ghost use Rattle.rules.specs.Design.{inRange, lawfulNeed, withinLimits, treeTest, valueTest};
+ghost use Rattle.rules.specs.Chip.{kindAt};
+ghost use Rattle.rules.specs.Design.{mostColumns, lastKind, mostModules, needAt, nodes, standingOf, inRange, lawfulNeed, withinLimits, treeTest, lawfulChip};
+ghost use Rattle.lawful.specs.Tested.{Tested};
 ghost use Rattle.lawful.specs.Stack.{emptyStack, afterCut, afterModule, afterToken};
+use rules::Chip;
 use rules::Design;
-use rules::Direction;
 use rules::LAST_KIND;
 use rules::MOST_COLUMNS;
 use rules::MOST_MODULES;
@@ -18,6 +18,7 @@ use rules::Need;
 use rules::Refusal;
 use rules::Reply;
 use rules::Token;
+use tokens::token_of;
 
 // Of the things that the tokens read so far leave standing: the modules in them, and how many things they are.
 pub struct Stack {
@@ -29,18 +30,6 @@ pub struct Stack {
 pub struct Step {
     pub ok: bool,
     pub stack: Stack,
-}
-
-// What a token's value says: a cut, a module, or a value beyond the largest module's.
-pub fn token_of(v: u8) -> Token
-    ensures { λ r. ⌜ r ≡ tokenOf mostModules v ⌝ }
-{
-    match v {
-        0 => Token::Cut(Direction::Vertical),
-        1 => Token::Cut(Direction::Horizontal),
-        2..=17 => Token::Module((v - 2) as usize),
-        _ => Token::Beyond,
-    }
 }
 
 // A number is within its limits.
@@ -73,17 +62,33 @@ pub fn lawful_need(n: Need) -> bool
 }
 
 // Every column of the chip has one of the kinds.
-fn kinds_ok(d: Design) -> bool
-    requires { ⌜ d .width .0 ≤ mostColumns ⌝ }
-    ensures { λ r. ⌜ r ≡ all (d .width .0) (λ x. leb (kindAt d x) lastKind) ⌝ }
+fn kinds_ok(chip: Chip) -> bool
+    requires { ⌜ chip .width .0 ≤ mostColumns ⌝ }
+    ensures { λ r. ⌜ r ≡ all (chip .width .0) (λ x. leb (kindAt chip x) lastKind) ⌝ }
 {
-    let w = d.width.0;
+    let w = chip.width.0;
     for x in 0..w {
-        if d.kinds[x] > LAST_KIND {
+        if chip.kinds[x] > LAST_KIND {
             return false;
         }
     }
     true
+}
+
+// The chip is within the limits, tested in file order.
+fn lawful_chip(chip: Chip) -> bool
+    ensures { λ r. ⌜ r ≡ lawfulChip chip ⌝ }
+{
+    if !in_range(1, MOST_COLUMNS, chip.width.0) {
+        return false;
+    }
+    if !in_range(1, MOST_ROWS, chip.height.0) {
+        return false;
+    }
+    if !in_range(1, chip.height.0, chip.block.0) {
+        return false;
+    }
+    kinds_ok(chip)
 }
 
 // Every module's need is lawful.
@@ -104,16 +109,7 @@ fn needs_ok(d: Design) -> bool
 pub fn within_limits(d: Design) -> bool
     ensures { λ r. ⌜ r ≡ withinLimits d ⌝ }
 {
-    if !in_range(1, MOST_COLUMNS, d.width.0) {
-        return false;
-    }
-    if !in_range(1, MOST_ROWS, d.height.0) {
-        return false;
-    }
-    if !in_range(1, d.height.0, d.block.0) {
-        return false;
-    }
-    if !kinds_ok(d) {
+    if !lawful_chip(d.chip) {
         return false;
     }
     if !in_range(1, MOST_MODULES, d.modules) {
@@ -169,7 +165,7 @@ fn after_module(m: usize, k: usize, stack: Stack) -> Step
     }
 }
 
-// What a token does to the stack, of m modules. There were fewer than 32 tokens, so the count can grow.
+// What a token does to the stack, of m modules. No more tokens were read than a design has, so the count can grow.
 pub fn after_token(m: usize, token: Token, stack: Stack) -> Step
     requires { ⌜ (m ≤ mostModules) × (stack .count < 2 * mostModules) ⌝ }
     ensures { λ r. ⌜ r ≡ afterToken m token stack ⌝ }
@@ -203,7 +199,7 @@ fn tree_test(d: Design) -> Reply
 
 // The tests that every service runs first: 4 for the limits, then 5 or 6 for the tree, each at position 0.
 pub fn value_test(d: Design) -> Reply
-    ensures { λ r. ⌜ r ≡ valueTest d ⌝ }
+    ensures { λ r. ⌜ Tested d r ⌝ }
 {
     if !within_limits(d) {
         return Reply::Refused(Refusal::BreaksLimits(0));

@@ -5,25 +5,24 @@ use mathlib.Core.List.{List}
 use Prim.Native.Nat.{ℕ, suc, _+_, _-_, _*_, _≤_, _<_}
 use native.Mathlib.Omega.{arith}
 use native.Mathlib.Nat.{mul-le-mul-right}
-use lib.ListN.{length, getD}
+use lib.ListN.{getD}
 use Rattle.rules.specs.declared.Design.{Design}
 use Rattle.rules.specs.declared.Direction.{Direction}
 use Rattle.rules.specs.declared.Token.the-variants.{Cut, Module, Beyond}
 use Rattle.rules.specs.Tree.{Tree, leaf, cut, position}
-use Rattle.rules.specs.Design.{mostColumns, needAt, tokenAt, nodeAt, nodes, slotsOf}
+use Rattle.rules.specs.Design.{needAt, tokenAt, nodeAt, nodes, slotsOf, widthOf, heightOf}
 use Rattle.rules.specs.Slot.{workNeeded}
 use Rattle.rules.proofs.Test.{fits}
 use Rattle.rules.proofs.Standing.{Node, is-leaf, is-cut, Children, node-module}
 use Rattle.rules.proofs.Nodes.{node-at}
-use Rattle.rules.proofs.Limits.{limits}
+use Rattle.rules.proofs.Limits.{limits, lawful-chip}
 use Rattle.rules.proofs.Listing.{list-bytes}
 use Rattle.rules.proofs.Pairing.{pairings-bytes}
 use Rattle.rules.proofs.Suiting.{design-decides}
 use Rattle.slots.specs.declared.Board.{Board}
 use Rattle.slots.specs.Size.{boardOf}
 use Rattle.slots.specs.Written.{NodeIs}
-use Rattle.leaves.specs.Leaf.{leafBytes, NodeRoom}
-use Rattle.leaves.proofs.Counting.{chip-of}
+use Rattle.leaves.specs.Leaf.{leafBytes, NodeRoom, NodeListed}
 use Rattle.cuts.specs.Cut.{pairedSlot, Roomy, Cuttable}
 use Rattle.trees.proofs.Lefts.{left-child}
 use Rattle.listing.specs.Making.{Listable, NodeMade}
@@ -56,29 +55,27 @@ module _ {d : Design} {lefts work : List ℕ} (L : Listable d lefts work) {t : �
       go (is-leaf e b) = let z : _≡_ {A = ℕ} 0 1 = cc in omega arith
       go (is-cut e c) = let z : _≡_ {A = ℕ} 0 1 = cc in omega arith
 
-  pub leaf-room : {b : Board} → b ≡ boardOf d → mostColumns ≤ length (d .kinds) → NodeRoom b t (d .kinds) work
-  leaf-room e k = rw e (let l = limits d (L .lawful) in record {
-    columns = l .width;
-    rows = l .height;
-    block = l .some-rows;
-    blocks = l .block;
-    kinds = omega arith;
+  pub leaf-room : {b : Board} → b ≡ boardOf d → NodeRoom b (d .chip) t work
+  leaf-room e = rw e (let l = limits d (L .lawful) in record {
+    lawful = lawful-chip d (L .lawful);
+    width = refl;
+    height = refl;
     node = omega arith;
-    slots = node-bytes (d .width .0) (d .height .0) (nodes d) t h (L .bytes);
+    slots = node-bytes (widthOf d) (heightOf d) (nodes d) t h (L .bytes);
   })
 
   pub leaf-made : {b : Board} {k : ℕ} {after : List ℕ} → b ≡ boardOf d → tokenAt d t ≡ Module k
-      → NodeIs (b .width .0) (b .height .0) t (leafBytes b (d .kinds) (needAt d k)) work after → NodeMade d t work after
+      → NodeListed b (d .chip) (needAt d k) t work after → NodeMade d t work after
   unfolding fits
   leaf-made {b} {k} {after} e q z = record {
-    slots = leafBytes (boardOf d) (d .kinds) (needAt d k);
+    slots = leafBytes (d .chip) (needAt d k);
     written = rw e at z;
-    listed = λ c on. rw (node-module its-node q) (rw (chip-of d) at (list-bytes (design-decides d) (leaf t k) c));
+    listed = λ c on. rw (node-module its-node q) (list-bytes (design-decides d) (leaf t k) c);
   }
 
   pub cut-room : {b : Board} {l r : ℕ} → b ≡ boardOf d → l < t → r < t → Cuttable b t l r work
   cut-room e x y = rw e (let l = limits d (L .lawful) in record {
-    room = record { columns = l .width; rows = l .height; node = omega arith; bytes = node-bytes (d .width .0) (d .height .0) (nodes d) t h (L .bytes) };
+    room = record { columns = l .chip .width; rows = l .chip .height; node = omega arith; bytes = node-bytes (widthOf d) (heightOf d) (nodes d) t h (L .bytes) };
     first = x;
     second = y;
   })
@@ -104,7 +101,7 @@ module _ {d : Design} {lefts work : List ℕ} (L : Listable d lefts work) {t : �
         → NodeIs (b .width .0) (b .height .0) t (pairedSlot k (b .width .0) (b .height .0) work (getD lefts t 0) (t - 1)) work after → NodeMade d t work after
     unfolding pairedSlot
     cut-made {b} {after} e z = let (l, r, p, a, b, x, y) = its-children in record {
-      slots = pairedSlot k (d .width .0) (d .height .0) work (getD lefts t 0) (t - 1);
+      slots = pairedSlot k (widthOf d) (heightOf d) work (getD lefts t 0) (t - 1);
       written = rw e at z;
-      listed = λ c on. rw (p, a, b) (pairings-bytes (d .width .0) (d .height .0) k (slotsOf d work (position l)) (slotsOf d work (position r)) c);
+      listed = λ c on. rw (p, a, b) (pairings-bytes (widthOf d) (heightOf d) k (slotsOf d work (position l)) (slotsOf d work (position r)) c);
     }

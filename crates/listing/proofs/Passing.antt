@@ -15,7 +15,7 @@ use Rattle.rules.specs.declared.Edit.{Edit}
 use Rattle.rules.specs.declared.Edit.the-variants.{Change, Turn}
 use Rattle.rules.specs.Tree.{Tree, leaf, cut, spans, position}
 use Rattle.rules.specs.Slot.{CornerOn}
-use Rattle.rules.specs.Design.{LawfulDesign, tokenAt, nodeAt, nodes, SuitsOf, slotsOf}
+use Rattle.rules.specs.Design.{LawfulDesign, tokenAt, nodeAt, nodes, SuitsOf, slotsOf, widthOf, heightOf}
 use Rattle.rules.specs.Edit.{Relists, changed, changedNode, EditedLists}
 use Rattle.rules.proofs.Standing.{Node, is-leaf, is-cut, Children}
 use Rattle.rules.proofs.Nodes.{node-at}
@@ -52,21 +52,21 @@ one-passed {d} {marked} {t} o m = record {
 
 -- the slots of node t agree in two states of the work bytes
 abbrev SameSlots : Design → ℕ → List ℕ → List ℕ → Type 0
-SameSlots d t mid after = Agree (d .width .0) (d .height .0) (slotsOf d mid t) (slotsOf d after t)
+SameSlots d t mid after = Agree (widthOf d) (heightOf d) (slotsOf d mid t) (slotsOf d after t)
 
 -- what a node is listed from hangs on the slots of the nodes before it
 relists-same : (d : Design) → LawfulDesign d → (t : ℕ) → t < nodes d → (mid after : List ℕ) → ((u : ℕ) → u < t → SameSlots d u mid after)
     → (c : Corner) → OnIts d c → (s : Shape)
-    → Relists (d .width .0) (d .height .0) (SuitsOf d) mid (nodeAt d t) c s ↔ Relists (d .width .0) (d .height .0) (SuitsOf d) after (nodeAt d t) c s
+    → Relists (widthOf d) (heightOf d) (SuitsOf d) mid (nodeAt d t) c s ↔ Relists (widthOf d) (heightOf d) (SuitsOf d) after (nodeAt d t) c s
 relists-same d lawful t h mid after same c on s = go (nodeAt d t) (node-at d lawful t h)
   where
     go : (u : Tree) → Node (d .modules) (tokenAt d) t u
-        → Relists (d .width .0) (d .height .0) (SuitsOf d) mid u c s ↔ Relists (d .width .0) (d .height .0) (SuitsOf d) after u c s
+        → Relists (widthOf d) (heightOf d) (SuitsOf d) mid u c s ↔ Relists (widthOf d) (heightOf d) (SuitsOf d) after u c s
     go (leaf t' k) n = (λ z. z, λ z. z)
     go (cut t' e l r) (is-cut q ch) =
         let a = ch .left-before in let b = ch .right-before in
         let x = same (position l) (omega arith) in let y = same (position r) (omega arith) in
-        (paired-agree (d .width .0) (d .height .0) e x y c on s, paired-agree (d .width .0) (d .height .0) e (agree-back x) (agree-back y) c on s)
+        (paired-agree (widthOf d) (heightOf d) e x y c on s, paired-agree (widthOf d) (heightOf d) e (agree-back x) (agree-back y) c on s)
 
 -- a marked node that is listed
 pub one-made : {d : Design} {marked : ℕ → Bool} {t : ℕ} {before mid after : List ℕ} → LawfulDesign d → t < nodes d → So (marked t)
@@ -75,21 +75,21 @@ one-made {d} {marked} {t} {before} {mid} {after} lawful ht st m z = record {
   long = z .written .long ∙ m .long;
   made = λ t' h s. listed t' h s (ℕ-discrete t' t);
   kept = λ t' h o c on j k. other t' (λ e. o (omega arith) (rw e at st)) c on j k ∙ m .kept t' h (λ g s. o (omega arith) s) c on j k;
-  past = λ i h. past-nodes (d .width .0) (d .height .0) t (nodes d) (z .slots) mid after (z .written) ht i h ∙ m .past i h;
+  past = λ i h. past-nodes (widthOf d) (heightOf d) t (nodes d) (z .slots) mid after (z .written) ht i h ∙ m .past i h;
 }
   where
-    other : (t' : ℕ) → (t ≡ t' → ⊥) → (c : Corner) → OnIts d c → (j : ℕ) → j < d .width .0 → slotsOf d after t' c j ≡ slotsOf d mid t' c j
-    other t' o = node-other (d .width .0) (d .height .0) t t' (z .slots) mid after (z .written) o
+    other : (t' : ℕ) → (t ≡ t' → ⊥) → (c : Corner) → OnIts d c → (j : ℕ) → j < widthOf d → slotsOf d after t' c j ≡ slotsOf d mid t' c j
+    other t' o = node-other (widthOf d) (heightOf d) t t' (z .slots) mid after (z .written) o
 
     same : (t' : ℕ) → t' ≤ t → (u : ℕ) → u < t' → SameSlots d u mid after
     same t' b u h = record { at = λ c on j k. sym (other u (λ e. absurd (omega arith)) c on j k) }
 
     listed : (t' : ℕ) → t' < t + 1 → So (marked t') → Dec (t' ≡ t) → (c : Corner) → OnIts d c → IsListed d t' (slotsOf d after t' c) after c
     listed t' h s (yes e) c on =
-        rw e (same-list (d .width .0) (z .slots c) (slotsOf d after t c) (λ j k. sym (z .written .inside c on j k))
+        rw e (same-list (widthOf d) (z .slots c) (slotsOf d after t c) (λ j k. sym (z .written .inside c on j k))
         (relists-same d lawful t ht mid after (same t (omega arith)) c on) (z .listed c on))
     listed t' h s (no e) c on =
-        same-list (d .width .0) (slotsOf d mid t' c) (slotsOf d after t' c) (λ j k. sym (other t' (λ q. e (sym q)) c on j k))
+        same-list (widthOf d) (slotsOf d mid t' c) (slotsOf d after t' c) (λ j k. sym (other t' (λ q. e (sym q)) c on j k))
         (relists-same d lawful t' (omega arith) mid after (same t' (omega arith)) c on) (m .made t' (omega arith) s c on)
 
 -- marks that agree on the nodes make the same pass

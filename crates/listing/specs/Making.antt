@@ -8,7 +8,7 @@ use Rattle.rules.specs.declared.Corner.{Corner}
 use Rattle.rules.specs.declared.Design.{Design}
 use Rattle.rules.specs.Tree.{spans}
 use Rattle.rules.specs.Slot.{CornerOn, IsListOf, PastKept}
-use Rattle.rules.specs.Design.{nodeAt, nodes, SuitsOf, slotsOf, LawfulDesign, OwnLists}
+use Rattle.rules.specs.Design.{nodeAt, nodes, SuitsOf, slotsOf, LawfulDesign, OwnLists, widthOf, heightOf}
 use Rattle.rules.specs.Edit.{Relists}
 use Rattle.rules.specs.Service.{workOf}
 use Rattle.slots.specs.Written.{NodeIs}
@@ -16,10 +16,10 @@ use Rattle.trees.specs.Positions.{LeftChildren}
 
 -- a corner of the design's chip, and what node t is listed from there, over the bytes as they stand
 abbrev pub OnIts : Design → Corner → Type 0
-OnIts d c = CornerOn (d .width .0) (d .height .0) c
+OnIts d c = CornerOn (widthOf d) (heightOf d) c
 
 abbrev pub IsListed : Design → ℕ → (ℕ → ℕ) → List ℕ → Corner → Type 0
-IsListed d t bytes work c = IsListOf (d .width .0) bytes (Relists (d .width .0) (d .height .0) (SuitsOf d) work (nodeAt d t) c)
+IsListed d t bytes work c = IsListOf (widthOf d) bytes (Relists (widthOf d) (heightOf d) (SuitsOf d) work (nodeAt d t) c)
 
 -- what a pass asks: a lawful design, its cuts' left children, and bytes enough
 pub record Listable (d : Design) (children work : List ℕ) : Type 0 where
@@ -30,14 +30,14 @@ pub record Listable (d : Design) (children work : List ℕ) : Type 0 where
 -- node t is listed from what stood before, and no other byte has changed
 pub record NodeMade (d : Design) (t : ℕ) (before after : List ℕ) : Type 0 where
   pub slots : Corner → ℕ → ℕ
-  pub written : NodeIs (d .width .0) (d .height .0) t slots before after
+  pub written : NodeIs (widthOf d) (heightOf d) t slots before after
   pub listed : (c : Corner) → OnIts d c → IsListed d t (slots c) before c
 
 pub record Made (d : Design) (marked : ℕ → Bool) (done : ℕ) (before after : List ℕ) : Type 0 where
   pub long : length after ≡ length before
   pub made : (t : ℕ) → t < done → So (marked t) → (c : Corner) → OnIts d c → IsListed d t (slotsOf d after t c) after c
   pub kept : (t : ℕ) → t < nodes d → (t < done → So (marked t) → ⊥) → (c : Corner) → OnIts d c
-      → (j : ℕ) → j < d .width .0 → slotsOf d after t c j ≡ slotsOf d before t c j
+      → (j : ℕ) → j < widthOf d → slotsOf d after t c j ≡ slotsOf d before t c j
   pub past : (i : ℕ) → workOf d ≤ i → getD after i 0 ≡ getD before i 0
 
 -- the nodes that are marked in an array, and those on the way from a position up to the root

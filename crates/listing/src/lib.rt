@@ -1,9 +1,9 @@
 // All nodes of a design, or those on the way of an edit, listed child before parent.
-use lawful::token_of;
 use rules::Design;
 use rules::MOST_TOKENS;
 use rules::Token;
 use slots::board_of;
+use tokens::token_of;
 ghost use Prim.Native.Nat.{_≤_, _<_};
 ghost use lib.ListN.{length};
 ghost use Rattle.rules.specs.Design.{LawfulDesign, nodes};
@@ -24,7 +24,7 @@ fn list_node(work: &mut [u8], design: Design, lefts: [u8; MOST_TOKENS], t: usize
         }
         Token::Module(k) => {
             let need = design.needs[k];
-            leaves::leaf_node(work, board, &design.kinds, need, t);
+            leaves::leaf_node(work, board, design.chip, need, t);
         }
         Token::Beyond => {}
     }

@@ -3,38 +3,32 @@
 use mathlib.Core.Path.{_≡_, refl, _∙_}
 use mathlib.Core.Bool.{true, false}
 use mathlib.Core.List.{List, [], _∷_, _++_, append-nil}
-use Prim.Native.Nat.{ℕ, suc, _+_, _-_, _*_, _≤_, _<_}
+use Prim.Native.Nat.{ℕ, suc, _+_, _-_, _≤_, _<_}
 use native.Mathlib.Omega.{arith}
 use native.Mathlib.Numerals.{add-one}
-use native.Mathlib.Decide.{decLt}
 use lib.ListN.{length, set}
-use borrow.Author.Tests.{le-ltb}
 use Rattle.rules.specs.declared.Token.{Token}
 use Rattle.rules.specs.declared.Refusal.{Refusal}
 use Rattle.rules.specs.declared.Refusal.the-variants.{BadToken, NotOneThing}
-use Rattle.rules.specs.Tree.{Tree, refused, tokenOf, added, after}
-use Rattle.rules.specs.Design.{mostModules}
+use Rattle.rules.specs.Tree.{Tree, refused, tokenOf, after}
+use Rattle.rules.specs.Design.{mostModules, mostTokens}
 use Rattle.rules.specs.Bytes.{Took, took, refuse, andThen, numberAt, onlyOne, keptToken, tokensAt, padded}
 use Rattle.lawful.specs.declared.Stack.{Stack}
 use Rattle.lawful.specs.declared.Step.{Step}
 use Rattle.lawful.specs.Stack.{emptyStack, afterToken, Mirrors}
-use Rattle.lawful.proofs.Tokens.{module-token, beyond-token}
+use Rattle.rules.proofs.Tokens.{kept-small}
 use Rattle.lawful.proofs.Mirroring.{empty-mirrors, token-refused, token-passed, one-more, one-thing}
 use Rattle.reading.proofs.Rows.{Reading, begun}
 use Rattle.reading.proofs.Rows as rows
-
--- the tokens' places in a design
-abbrev places : ℕ
-places = 2 * mostModules - 1
 
 -- i of n tokens have been read, from one position up to another, and these trees stand
 pub record ReadingTokens (s : List ℕ) (m n from at i : ℕ) (stack : Stack) (tokens : List ℕ) : Type 0 where
   pub trees : List Tree
   pub mirrors : Mirrors stack trees
   pub most : stack .count ≤ i
-  pub reading : Reading places 0 (tokensAt s m 0 n [] from) (tokensAt s m i (n - i) trees at) i tokens
+  pub reading : Reading mostTokens 0 (tokensAt s m 0 n [] from) (tokensAt s m i (n - i) trees at) i tokens
 
-pub tokens-begun : (s : List ℕ) (m n from : ℕ) → ReadingTokens s m n from from 0 emptyStack (padded places 0 [])
+pub tokens-begun : (s : List ℕ) (m n from : ℕ) → ReadingTokens s m n from from 0 emptyStack (padded mostTokens 0 [])
 unfolding emptyStack
 tokens-begun s m n from = record {
   trees = [];
@@ -42,15 +36,6 @@ tokens-begun s m n from = record {
   most = omega arith;
   reading = let e : n - 0 ≡ n = omega arith in rw e (begun _ _ _);
 }
-
--- "token over m+1"
-over : (m t k : ℕ) (ts : List Tree) → m + 1 < k → after m t (tokenOf mostModules k) ts ≡ refused
-unfolding added
-over m t k ts h = go (decLt k (mostModules + 2))
-  where
-    go : Dec (k < mostModules + 2) → after m t (tokenOf mostModules k) ts ≡ refused
-    go (yes l) = rw (module-token k (omega arith) l, added, le-ltb (k - 2) m (omega arith))
-    go (no l) = rw (beyond-token k (omega arith))
 
 module _ {s : List ℕ} {m n from at i : ℕ} {stack : Stack} {tokens : List ℕ}
     (R : ReadingTokens s m n from at i stack tokens) where
@@ -72,9 +57,6 @@ module _ {s : List ℕ} {m n from at i : ℕ} {stack : Stack} {tokens : List ℕ
       refuses : after m i (tokenOf mostModules k) (R .trees) ≡ refused → whole ≡ refuse (BadToken at)
       refuses f = (rw (rest, q, f) at (R .reading)) .left
 
-      pub token-over : m + 1 < k → whole ≡ refuse (BadToken at)
-      token-over h = refuses (over m i k (R .trees) h)
-
       -- with the step that the token takes
       module _ (h : m ≤ mostModules) {token : Token} (e : token ≡ tokenOf mostModules k) {p : Step}
           (f : p ≡ afterToken m token stack) where
@@ -84,7 +66,13 @@ module _ {s : List ℕ} {m n from at i : ℕ} {stack : Stack} {tokens : List ℕ
         pub token-bad : p .ok ≡ false → whole ≡ refuse (BadToken at)
         token-bad o = refuses (token-refused m i (tokenOf mostModules k) h (R .mirrors) (rw step at o))
 
-        pub token-kept : p .ok ≡ true → n ≤ places → ReadingTokens s m n from next (i + 1) (p .stack) (set tokens i k)
+        -- a token that is kept is a byte, since it says a cut or a module
+        pub token-byte : p .ok ≡ true → k < 256
+        token-byte o =
+            let (us, u, M) = token-passed m i (tokenOf mostModules k) h (R .mirrors) (rw step at o) in
+            omega (arith, kept-small mostModules m i k (R .trees) us u)
+
+        pub token-kept : p .ok ≡ true → n ≤ mostTokens → ReadingTokens s m n from next (i + 1) (p .stack) (set tokens i k)
         token-kept o g =
             let (us, u, M) = token-passed m i (tokenOf mostModules k) h (R .mirrors) (rw step at o) in
             let a = one-more m (tokenOf mostModules k) stack in rw step (record {

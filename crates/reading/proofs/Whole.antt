@@ -8,7 +8,7 @@ use lib.Dec.{eqb}
 use lib.ListN.{length}
 use Rattle.rules.specs.declared.Design.{Design}
 use Rattle.rules.specs.declared.Refusal.the-variants.{WrongForm, BreaksLimits, ExtraBytes}
-use Rattle.rules.specs.Design.{mostColumns, mostRows, lawfulKind, mostModules}
+use Rattle.rules.specs.Design.{mostColumns, mostRows, lawfulKind, mostModules, widthOf}
 use Rattle.rules.specs.Bytes.{Took, took, refuse, andThen, judged, checkedAt, limitedAt, rowAt, needOf, tokensAt, designAt}
 use Rattle.reading.specs.Stages.{sizesAt, kindsAt, needsAt, treeAt}
 use Rattle.reading.proofs.Answers.{limited-fits}
@@ -43,14 +43,14 @@ then-took (refuse x) f e = let z : _≡_ {A = ℕ} 0 1 = cc in absurd (omega ari
 taken-same : {A : Type 0} {a b : A} {m n : ℕ} → took a m ≡ took b n → a ≡ b
 taken-same e = cc
 
-pub width-fits : (s : List ℕ) {d : Design} {next : ℕ} → sizesAt s ≡ took d next → d .width .0 ≤ mostColumns
+pub width-fits : (s : List ℕ) {d : Design} {next : ℕ} → sizesAt s ≡ took d next → widthOf d ≤ mostColumns
 unfolding sizesAt
 width-fits s {d} e =
     let (_, n, _, e1) = then-took (checkedAt (λ v. eqb v 1) WrongForm s 0) _ e in
     let (w, n, q, e2) = then-took (limitedAt 1 mostColumns s n) _ e1 in
     let (h, n, _, e3) = then-took (limitedAt 1 mostRows s n) _ e2 in
     let (b, _, _, e4) = then-took (limitedAt 1 h s n) _ e3 in
-    rw (ap (λ (d : Design). d .width .0) (taken-same e4)) at (limited-fits _ _ _ _ q .1)
+    rw (ap (λ (d : Design). widthOf d) (taken-same e4)) at (limited-fits _ _ _ _ q .1)
 
 pub modules-fit : (s : List ℕ) (d : Design) (at : ℕ) {d' : Design} {next : ℕ} → needsAt s d at ≡ took d' next
     → (1 ≤ d' .modules) × (d' .modules ≤ mostModules)

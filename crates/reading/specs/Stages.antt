@@ -1,15 +1,16 @@
 -- A design is read in four stages, in file order, each over the design that the last one left; Whole.antt, in proofs/, shows that
 -- they are the rules' reading. A stage answers with the design so far, or with a refusal beside zeros.
 use mathlib.Core.List.{List, []}
-use Prim.Native.Nat.{ℕ, _-_, _*_}
+use Prim.Native.Nat.{ℕ}
 use lib.Dec.{eqb}
 use Rattle.rules.specs.declared.Need.{Need}
+use Rattle.rules.specs.declared.Chip.{Chip}
 use Rattle.rules.specs.declared.Design.{Design}
 use Rattle.rules.specs.declared.Refusal.the-variants.{WrongForm, BreaksLimits}
 use Rattle.rules.specs.declared.Reply.{Reply}
 use Rattle.rules.specs.declared.Reply.the-variants.{Done, Refused}
-use Rattle.rules.specs.Design.{mostColumns, mostRows, lawfulKind, mostModules, noNeed, nodes}
-use Rattle.rules.specs.Bytes.{Took, took, refuse, andThen, checkedAt, limitedAt, rowAt, needOf, tokensAt, padded, designOf}
+use Rattle.rules.specs.Design.{mostColumns, mostRows, lawfulKind, mostModules, mostTokens, noNeed, nodes, widthOf, withChip, withModules, withTokens}
+use Rattle.rules.specs.Bytes.{Took, took, refuse, andThen, checkedAt, limitedAt, rowAt, needOf, tokensAt, padded, chipFrom, designFrom}
 use Rattle.rules.specs.Service.{zeros}
 use Rattle.numbers.specs.declared.NumberReply.{NumberReply}
 use Rattle.numbers.specs.declared.NumberReply.the-variants.{Number}
@@ -37,52 +38,23 @@ sizesAt s =
     andThen (checkedAt (λ v. eqb v 1) WrongForm s 0) λ form at-w.
     andThen (limitedAt 1 mostColumns s at-w) λ w at-h.
     andThen (limitedAt 1 mostRows s at-h) λ h at-b.
-    andThen (limitedAt 1 h s at-b) λ b next. took (designOf w h b [] 0 [] []) next
+    andThen (limitedAt 1 h s at-b) λ b next. took (designFrom (chipFrom w h b []) 0 [] []) next
 
 -- the kinds of the columns
-abbrev pub withKinds : Design → List ℕ → Design
-withKinds d ks = record {
-  width = d .width;
-  height = d .height;
-  block = d .block;
-  kinds = padded mostColumns 0 ks;
-  modules = d .modules;
-  needs = d .needs;
-  tokens = d .tokens;
-}
+abbrev pub withKinds : Chip → List ℕ → Chip
+withKinds C ks = record { width = C .width; height = C .height; block = C .block; kinds = padded mostColumns 0 ks }
 
 unfoldable pub kindsAt : List ℕ → Design → ℕ → Took Design
 kindsAt s d at =
-    andThen (rowAt (checkedAt lawfulKind BreaksLimits s) (d .width .0) at) λ ks next. took (withKinds d ks) next
+    andThen (rowAt (checkedAt lawfulKind BreaksLimits s) (widthOf d) at) λ ks next. took (withChip d (withKinds (d .chip) ks)) next
 
 -- the count of modules, and their needs
-abbrev pub withNeeds : Design → ℕ → List Need → Design
-withNeeds d m ns = record {
-  width = d .width;
-  height = d .height;
-  block = d .block;
-  kinds = d .kinds;
-  modules = m;
-  needs = padded mostModules noNeed ns;
-  tokens = d .tokens;
-}
-
 unfoldable pub needsAt : List ℕ → Design → ℕ → Took Design
 needsAt s d at =
     andThen (limitedAt 1 mostModules s at) λ m at-needs.
-    andThen (rowAt (needOf s) m at-needs) λ ns next. took (withNeeds d m ns) next
+    andThen (rowAt (needOf s) m at-needs) λ ns next. took (withModules d m (padded mostModules noNeed ns)) next
 
 -- the tokens
-abbrev pub withTokens : Design → List ℕ → Design
-withTokens d ts = record {
-  width = d .width;
-  height = d .height;
-  block = d .block;
-  kinds = d .kinds;
-  modules = d .modules;
-  needs = d .needs;
-  tokens = padded (2 * mostModules - 1) 0 ts;
-}
-
 unfoldable pub treeAt : List ℕ → Design → ℕ → Took Design
-treeAt s d at = andThen (tokensAt s (d .modules) 0 (nodes d) [] at) λ ts next. took (withTokens d ts) next
+treeAt s d at =
+    andThen (tokensAt s (d .modules) 0 (nodes d) [] at) λ ts next. took (withTokens d (padded mostTokens 0 ts)) next

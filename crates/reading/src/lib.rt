@@ -5,11 +5,12 @@ ghost use Prim.Native.Nat.{_≤_};
 ghost use lib.Dec.{eqb};
 ghost use Rattle.rules.specs.declared.Refusal.the-variants.{WrongForm};
 ghost use Rattle.rules.specs.Design.{mostColumns, mostModules};
-ghost use Rattle.rules.specs.Bytes.{checkedAt, limitedAt, needOf, designOf};
+ghost use Rattle.rules.specs.Bytes.{checkedAt, limitedAt, needOf, chipFrom, designFrom};
 ghost use Rattle.rules.specs.Service.{zeros, Reads};
 ghost use Rattle.numbers.specs.Replies.{replyOf};
 ghost use Rattle.reading.specs.Stages.{replied, stage, oneNeed, sizesAt, kindsAt, needsAt, treeAt};
 use numbers::NumberReply;
+use rules::Chip;
 use rules::Columns;
 use rules::Design;
 use rules::Handed;
@@ -22,6 +23,7 @@ use rules::Need;
 use rules::Refusal;
 use rules::Reply;
 use rules::Rows;
+use tokens::token_of_number;
 
 // A need before it is read.
 const NO_NEED: Need = Need {
@@ -83,16 +85,19 @@ fn said(number: NumberReply) -> Reply
 
 // A design of these sizes, whose other places are zero.
 fn empty(width: Columns, height: Rows, block: Rows) -> Design
-    ensures { λ r. ⌜ r ≡ designOf (width .0) (height .0) (block .0) [] 0 [] [] ⌝ }
+    ensures { λ r. ⌜ r ≡ designFrom (chipFrom (width .0) (height .0) (block .0) []) 0 [] [] ⌝ }
 {
     let kinds = [0u8; MOST_COLUMNS];
     let needs = [NO_NEED; MOST_MODULES];
     let tokens = [0u8; MOST_TOKENS];
-    Design {
+    let chip = Chip {
         width,
         height,
         block,
         kinds,
+    };
+    Design {
+        chip,
         modules: 0,
         needs,
         tokens,
@@ -142,11 +147,12 @@ fn read_sizes(s: &[u8]) -> Stage
 
 // The kinds of the columns.
 fn read_kinds(s: &[u8], last: Stage) -> Stage
-    requires { ⌜ last .design .width .0 ≤ mostColumns ⌝ }
+    requires { ⌜ last .design .chip .width .0 ≤ mostColumns ⌝ }
     ensures { λ r. ⌜ r ≡ stage (kindsAt (now (s .entry)) (last .design) (last .next)) ⌝ }
 {
     let mut design = last.design;
-    let w = design.width.0;
+    let mut chip = design.chip;
+    let w = chip.width.0;
     let mut kinds = [0u8; MOST_COLUMNS];
     let mut at = last.next;
     for x in 0..w {
@@ -157,7 +163,8 @@ fn read_kinds(s: &[u8], last: Stage) -> Stage
         kinds[x] = value as u8;
         at = next;
     }
-    design.kinds = kinds;
+    chip.kinds = kinds;
+    design.chip = chip;
     Stage {
         reply: Reply::Done,
         next: at,
@@ -245,10 +252,7 @@ fn read_tokens(s: &[u8], last: Stage) -> Stage
         let NumberReply::Number { value, next } = number else {
             return stopped(number);
         };
-        if m + 1 < value {
-            return stopped(NumberReply::Refused(Refusal::BadToken(at)));
-        }
-        let step = lawful::after_token(m, lawful::token_of(value as u8), stack);
+        let step = lawful::after_token(m, token_of_number(value), stack);
         if !step.ok {
             return stopped(NumberReply::Refused(Refusal::BadToken(at)));
         }

@@ -6,12 +6,12 @@ use native.Mathlib.Omega.{arith}
 use native.Mathlib.Decide.{ℕ-discrete}
 use lib.ListN.{length, getD, set, length-set, replicate}
 use lib.Seq.{getD-set-same, getD-set-other}
-use Rattle.trees.specs.Positions.{mostNodes}
+use Rattle.rules.specs.Design.{mostTokens}
 
 -- of the first n places those below t are as f says, and the places beyond n are empty
 pub record UpTo {A : Type 0} (empty : A) (f : ℕ → A) (n t : ℕ) (xs : List A) : Type 0 where
-  pub few : n ≤ mostNodes
-  pub long : length xs ≡ mostNodes
+  pub few : n ≤ mostTokens
+  pub long : length xs ≡ mostTokens
   pub before : (u : ℕ) → u < t → u < n → getD xs u empty ≡ f u
   pub past : (u : ℕ) → n ≤ u → getD xs u empty ≡ empty
 
@@ -21,13 +21,13 @@ empty-at empty (suc n) zero = refl
 empty-at empty (suc n) (suc u) = empty-at empty n u
 
 -- nothing put there yet
-pub none-yet : {A : Type 0} (empty : A) (f : ℕ → A) (n t : ℕ) → n ≤ mostNodes → ((u : ℕ) → u < t → u < n → f u ≡ empty)
-    → UpTo empty f n t (replicate mostNodes empty)
+pub none-yet : {A : Type 0} (empty : A) (f : ℕ → A) (n t : ℕ) → n ≤ mostTokens → ((u : ℕ) → u < t → u < n → f u ≡ empty)
+    → UpTo empty f n t (replicate mostTokens empty)
 none-yet empty f n t h z = record {
   few = h;
   long = refl;
-  before = λ u l k. empty-at empty mostNodes u ∙ sym (z u l k);
-  past = λ u l. empty-at empty mostNodes u;
+  before = λ u l k. empty-at empty mostTokens u ∙ sym (z u l k);
+  past = λ u l. empty-at empty mostTokens u;
 }
 
 -- one place more

@@ -1,49 +1,23 @@
 -- Left children. What stands below the last thing stood alone when its own last token had been read, so one token more leaves
 -- below the last thing either the node just before (a module), or what stood below the left child (a cut). Assumes nothing.
 use mathlib.Core.Path.{_≡_, refl, sym, _∙_, ap}
-use mathlib.Core.Bool.{Bool, true, false}
+use mathlib.Core.Bool.{Bool, true, false, So, true≢false}
 use mathlib.Core.List.{List, [], _∷_}
 use Prim.Native.Nat.{ℕ, zero, suc, _+_, _-_, _≤_, _<_}
 use native.Mathlib.Omega.{arith}
 use native.Mathlib.Numerals.{add-one}
-use native.Mathlib.Decide.{decLt}
-use lib.Dec.{ltb}
 use lib.ListN.{getD, replicate}
 use Rattle.rules.specs.declared.Direction.{Direction}
-use Rattle.rules.specs.declared.Direction.the-variants.{Vertical, Horizontal}
 use Rattle.rules.specs.declared.Token.{Token}
-use Rattle.rules.specs.declared.Token.the-variants.{Cut, Module, Beyond}
 use Rattle.rules.specs.declared.Design.{Design}
-use Rattle.rules.specs.Tree.{Tree, leaf, cut, position, things, tokenOf, standing}
-use Rattle.rules.specs.Design.{mostModules, tokenAt, nodes, standingOf, nodeAt, LawfulDesign}
-use Rattle.rules.proofs.Standing.{Reading, none-read, module-read, cut-read, Children, Node, is-leaf, is-cut, read-stands, earlier, last-position}
-use Rattle.rules.proofs.Nodes.{modules-within, lawful-tree, node-at}
-use Rattle.trees.specs.Positions.{mostNodes, lastButOne, LeftChildren}
+use Rattle.rules.specs.Tree.{Tree, cut, position, things, isCut, standing}
+use Rattle.rules.specs.Design.{mostTokens, tokenAt, nodes, standingOf, nodeAt, LawfulDesign}
+use Rattle.rules.proofs.Standing.{Reading, none-read, module-read, cut-read, Node, is-leaf, is-cut, read-stands, earlier, last-position}
+use Rattle.rules.proofs.Searching.{absurd-so}
+use Rattle.rules.proofs.Nodes.{lawful-tree, node-at}
+use Rattle.rules.proofs.Limits.{limits}
+use Rattle.trees.specs.Positions.{lastButOne, LeftChildren}
 use Rattle.trees.proofs.Arrays.{UpTo, none-yet}
-
--- what a token's value says
-pub cut-token : (most v : ℕ) → v < 2 → (k : Direction) × (tokenOf most v ≡ Cut k)
-cut-token most zero h = (Vertical, refl)
-cut-token most (suc zero) h = (Horizontal, refl)
-cut-token most (suc (suc v)) h = absurd (omega arith)
-
-pub no-cut : (most v : ℕ) {k : Direction} → 2 ≤ v → tokenOf most v ≡ Cut k → ⊥
-no-cut most zero h e = absurd (omega arith)
-no-cut most (suc zero) h e = absurd (omega arith)
-no-cut most (suc (suc v)) {k} h e = go (ltb v most) e
-  where
-    go : (b : Bool) → elim b as (λ _. Token) [ true ↦ Module v | false ↦ Beyond ] ≡ Cut k → ⊥
-    go true e = let z : _≡_ {A = ℕ} 0 1 = cc in omega arith
-    go false e = let z : _≡_ {A = ℕ} 0 1 = cc in omega arith
-
-pub module-token : (most v : ℕ) {k : ℕ} → tokenOf most v ≡ Module k → v ≡ k + 2
-module-token most zero e = let z : _≡_ {A = ℕ} 0 1 = cc in absurd (omega arith)
-module-token most (suc zero) e = let z : _≡_ {A = ℕ} 0 1 = cc in absurd (omega arith)
-module-token most (suc (suc v)) {k} e = go (ltb v most) e
-  where
-    go : (b : Bool) → elim b as (λ _. Token) [ true ↦ Module v | false ↦ Beyond ] ≡ Module k → suc (suc v) ≡ k + 2
-    go true e = let q : v ≡ k = cc in omega arith
-    go false e = let z : _≡_ {A = ℕ} 0 1 = cc in absurd (omega arith)
 
 -- the lowest things of some that stand
 data Lowest (ws : List Tree) : List Tree → Type 0 where
@@ -67,16 +41,16 @@ module _ {m : ℕ} {token : ℕ → Token} where
   nothing-read none-read = refl
 
   -- below the last thing after a module stands the node before it
-  after-module : {t : ℕ} {us : List Tree} → Reading m token (suc t) us → ((k : Direction) → token t ≡ Cut k → ⊥)
+  after-module : {t : ℕ} {us : List Tree} → Reading m token (suc t) us → isCut (token t) ≡ false
       → lastButOne (things us) ≡ t - 1
   after-module (module-read {ts = []} r e b f) o = let q = nothing-read r in omega arith
   after-module (module-read {ts = u ∷ us} r e b f) o = let q = last-position r in omega arith
-  after-module (cut-read {d = d} r e) o = absurd (o d e)
+  after-module (cut-read r e) o = absurd (true≢false (rw e at o))
 
   -- and after a cut what stood below its left child
-  after-cut : {t : ℕ} {k : Direction} {us : List Tree} → Reading m token (suc t) us → token t ≡ Cut k
+  after-cut : {t : ℕ} {us : List Tree} → Reading m token (suc t) us → So (isCut (token t))
       → lastButOne (things us) ≡ lastButOne (standing m token (suc (lastButOne (standing m token t))))
-  after-cut (module-read r e b f) q = let z : _≡_ {A = ℕ} 0 1 = cc in absurd (omega arith)
+  after-cut (module-read r e b f) q = absurd-so (rw e at q)
   after-cut (cut-read {n = n} {d = d} {l = a} {r = b} {ts = ts} r e) q =
       rw (read-stands r, read-stands (stood r (below all))) (same-below (cut n d a b) a ts)
 
@@ -86,38 +60,8 @@ module _ {m : ℕ} {token : ℕ → Token} where
   left-of (module-read r e b f) q = let z : _≡_ {A = ℕ} 0 1 = cc in absurd (omega arith)
   left-of {l = l} (cut-read {l = a} r e) q = let z : a ≡ l = cc in rw (read-stands r) (ap position z)
 
--- a cut of a lawful design, and its children: "the earlier being its left child", the right child being the node just before it
-pub record CutNode (d : Design) (t : ℕ) : Type 0 where
-  pub direction : Direction
-  pub left : Tree
-  pub right : Tree
-  pub token : tokenAt d t ≡ Cut direction
-  pub is : nodeAt d t ≡ cut t direction left right
-  pub children : Children (d .modules) (tokenAt d) t left right
-
 module _ (d : Design) (lawful : LawfulDesign d) where
-  -- there are at most 31 nodes
-  pub few-nodes : (0 < d .modules) × (d .modules ≤ mostModules)
-  few-nodes = modules-within d (lawful-tree d lawful .limits)
-
-  -- what stands at a position is as the token there says
   module _ (t : ℕ) (h : t < nodes d) where
-    pub cut-node : getD (d .tokens) t 0 < 2 → CutNode d t
-    cut-node c = go refl (node-at d lawful t h)
-      where
-        go : {u : Tree} → nodeAt d t ≡ u → Node (d .modules) (tokenAt d) t u → CutNode d t
-        go q (is-leaf e b) =
-            let (k, f) = cut-token mostModules (getD (d .tokens) t 0) c in let z : _≡_ {A = ℕ} 0 1 = cc in absurd (omega arith)
-        go q (is-cut {d = k} {l = l} {r = r} e c) = record { direction = k; left = l; right = r; token = e; is = q; children = c }
-
-    pub leaf-node : 2 ≤ getD (d .tokens) t 0 → nodeAt d t ≡ leaf t (getD (d .tokens) t 0 - 2)
-    leaf-node c = go refl (node-at d lawful t h)
-      where
-        go : {u : Tree} → nodeAt d t ≡ u → Node (d .modules) (tokenAt d) t u → nodeAt d t ≡ leaf t (getD (d .tokens) t 0 - 2)
-        go q (is-leaf {k = k} e b) =
-            let a = module-token mostModules (getD (d .tokens) t 0) e in let z : getD (d .tokens) t 0 - 2 ≡ k = omega arith in rw z q
-        go q (is-cut e b) = absurd (no-cut mostModules (getD (d .tokens) t 0) c e)
-
     -- what stands after that token
     read-to : (us : List Tree) × Reading (d .modules) (tokenAt d) (suc t) (nodeAt d t ∷ us)
     read-to = let E = earlier (lawful-tree d lawful .reading) t h in (E .others, E .reading)
@@ -125,46 +69,48 @@ module _ (d : Design) (lawful : LawfulDesign d) where
     left-stands : {k : Direction} {l r : Tree} → nodeAt d t ≡ cut t k l r → lastButOne (standingOf d t) ≡ position l
     left-stands e = left-of (read-to .1) e
 
-    left-before : getD (d .tokens) t 0 < 2 → lastButOne (standingOf d t) + 1 < t
-    left-before c = let N = cut-node c in let a = left-stands (N .is) in let b = N .children in omega arith
+    left-before : So (isCut (tokenAt d t)) → lastButOne (standingOf d t) + 1 < t
+    left-before c = go refl (node-at d lawful t h)
+      where
+        go : {u : Tree} → nodeAt d t ≡ u → Node (d .modules) (tokenAt d) t u → lastButOne (standingOf d t) + 1 < t
+        go q (is-leaf e b) = absurd-so (rw e at c)
+        go q (is-cut e b) = let a = left-stands q in omega arith
 
-    module-next : 2 ≤ getD (d .tokens) t 0 → lastButOne (standingOf d (suc t)) ≡ t - 1
-    module-next c = let (us, r) = read-to in rw (read-stands r) (after-module r (λ k. no-cut mostModules (getD (d .tokens) t 0) c))
+    module-next : isCut (tokenAt d t) ≡ false → lastButOne (standingOf d (suc t)) ≡ t - 1
+    module-next c = let (us, r) = read-to in rw (read-stands r) (after-module r c)
 
-    cut-next : getD (d .tokens) t 0 < 2
+    cut-next : So (isCut (tokenAt d t))
         → lastButOne (standingOf d (suc t)) ≡ lastButOne (standingOf d (suc (lastButOne (standingOf d t))))
-    cut-next c =
-        let (us, r) = read-to in let (k, e) = cut-token mostModules (getD (d .tokens) t 0) c in
-        ap lastButOne (read-stands r) ∙ after-cut r e
+    cut-next c = let (us, r) = read-to in ap lastButOne (read-stands r) ∙ after-cut r c
 
   -- before the first two tokens nothing stands below the last thing
   none-below : (t : ℕ) → t < 2 → t < nodes d → lastButOne (standingOf d t) ≡ 0
   unfolding standing
   none-below zero h k = refl
-  none-below (suc zero) h k = go (decLt (getD (d .tokens) 0 0) 2)
+  none-below (suc zero) h k = go (isCut (tokenAt d 0)) refl
     where
-      go : Dec (getD (d .tokens) 0 0 < 2) → lastButOne (standingOf d 1) ≡ 0
-      go (yes c) = let l = left-before 0 (omega arith) c in absurd (omega arith)
-      go (no c) = module-next 0 (omega arith) (omega arith)
+      go : (b : Bool) → isCut (tokenAt d 0) ≡ b → lastButOne (standingOf d 1) ≡ 0
+      go true c = let l = left-before 0 (omega arith) c in absurd (omega arith)
+      go false c = module-next 0 (omega arith) c
   none-below (suc (suc t)) h k = absurd (omega arith)
 
 -- the pass has come to position t
 abbrev pub Found : Design → ℕ → List ℕ → Type 0
 Found d t lefts = UpTo 0 (λ u. lastButOne (standingOf d u)) (nodes d) t lefts
 
-pub none-found : (d : Design) → LawfulDesign d → Found d 2 (replicate mostNodes 0)
-none-found d lawful = none-yet 0 _ (nodes d) 2 (omega (arith, few-nodes d lawful .1)) (none-below d lawful)
+pub none-found : (d : Design) → LawfulDesign d → Found d 2 (replicate mostTokens 0)
+none-found d lawful = none-yet 0 _ (nodes d) 2 (omega (arith, limits d lawful .modules)) (none-below d lawful)
 
 pub all-found : {d : Design} {t : ℕ} {lefts : List ℕ} → Found d t lefts → nodes d ≤ t → LeftChildren d lefts
 all-found f h = record { before = λ u k. f .before u (omega arith) k; past = f .past }
 
 -- what the code puts at position t
 module _ (d : Design) (lawful : LawfulDesign d) {t : ℕ} {lefts : List ℕ} (f : Found d t lefts) (g : 2 ≤ t) (h : t < nodes d) where
-  pub module-found : 2 ≤ getD (d .tokens) (t - 1) 0 → t - 2 ≡ lastButOne (standingOf d t)
+  pub module-found : isCut (tokenAt d (t - 1)) ≡ false → t - 2 ≡ lastButOne (standingOf d t)
   module-found c =
       let e : suc (t - 1) ≡ t = omega arith in let q = rw e at (module-next d lawful (t - 1) (omega arith) c) in omega arith
 
-  module _ (c : getD (d .tokens) (t - 1) 0 < 2) where
+  module _ (c : So (isCut (tokenAt d (t - 1)))) where
     pub left-found : getD lefts (t - 1) 0 + 1 < t - 1
     left-found = rw (f .before (t - 1) (omega arith) (omega arith)) (left-before d lawful (t - 1) (omega arith) c)
 
@@ -179,5 +125,5 @@ module _ {d : Design} {lefts : List ℕ} (lawful : LawfulDesign d) (L : LeftChil
   pub left-child : {k : Direction} {l r : Tree} → nodeAt d t ≡ cut t k l r → getD lefts t 0 ≡ position l
   left-child e = L .before t h ∙ left-stands d lawful t h e
 
-  pub left-earlier : getD (d .tokens) t 0 < 2 → getD lefts t 0 + 1 < t
+  pub left-earlier : So (isCut (tokenAt d t)) → getD lefts t 0 + 1 < t
   left-earlier c = rw (L .before t h) (left-before d lawful t h c)

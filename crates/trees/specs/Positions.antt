@@ -2,17 +2,13 @@
 use mathlib.Core.Path.{_≡_}
 use mathlib.Core.Bool.{Bool, false, _&&_, _||_}
 use mathlib.Core.List.{List, [], _∷_}
-use Prim.Native.Nat.{ℕ, _+_, _-_, _*_, _≤_, _<_}
-use lib.Dec.{ltb, eqb}
+use Prim.Native.Nat.{ℕ, _-_, _≤_, _<_}
+use lib.Dec.{eqb}
 use lib.ListN.{getD}
 use Rattle.rules.specs.declared.Design.{Design}
-use Rattle.rules.specs.Search.{least}
-use Rattle.rules.specs.Tree.{Standing, refused, things, position, spans}
-use Rattle.rules.specs.Design.{mostModules, nodes, standingOf, nodeAt}
-
--- as many places as code has for the nodes
-abbrev pub mostNodes : ℕ
-mostNodes = 2 * mostModules - 1
+use Rattle.rules.specs.declared.Token.{Token}
+use Rattle.rules.specs.Tree.{Standing, refused, things, position, spans, isCut}
+use Rattle.rules.specs.Design.{nodes, standingOf, nodeAt}
 
 -- where the last thing but one stands; 0 with fewer than two
 abbrev pub lastButOne : Standing → ℕ
@@ -27,15 +23,11 @@ pub record LeftChildren (d : Design) (lefts : List ℕ) : Type 0 where
   pub before : (t : ℕ) → t < nodes d → getD lefts t 0 ≡ lastButOne (standingOf d t)
   pub past : (t : ℕ) → nodes d ≤ t → getD lefts t 0 ≡ 0
 
--- the first position whose token is module k's
-abbrev pub modulePosition : Design → ℕ → ℕ
-modulePosition d k = least (λ t. eqb (getD (d .tokens) t 0) (k + 2)) (nodes d) 0
-
 -- "the changed node and each node above it": those nodes are marked whose tree spans a position. Places beyond the tokens are not.
 pub record WayUp (d : Design) (at : ℕ) (marks : List Bool) : Type 0 where
   pub node : (t : ℕ) → t < nodes d → getD marks t false ≡ spans (nodeAt d t) at
   pub past : (t : ℕ) → nodes d ≤ t → getD marks t false ≡ false
 
 -- a node's mark, by its token, from its children's
-unfoldable pub markOf : ℕ → List ℕ → List Bool → ℕ → ℕ → Bool
-markOf token lefts marks t at = eqb at t || (ltb token 2 && (getD marks (getD lefts t 0) false || getD marks (t - 1) false))
+unfoldable pub markOf : Token → List ℕ → List Bool → ℕ → ℕ → Bool
+markOf token lefts marks t at = eqb at t || (isCut token && (getD marks (getD lefts t 0) false || getD marks (t - 1) false))

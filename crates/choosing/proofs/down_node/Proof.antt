@@ -2,7 +2,7 @@
 use mathlib.Core.Path.{sym, _∙_}
 use native.Mathlib.Omega.{arith}
 use borrow.Author.Needs.{needs}
-use Rattle.choosing.proofs.Steps.{module-below}
+use Rattle.rules.proofs.Tokens.{module-below}
 use Rattle.choosing.proofs.down_node.Statement.{statement}
 use Rattle.choosing.proofs.down_node.Tie as tie
 
@@ -21,7 +21,7 @@ enum-known-token-2 c = search needs
 down-leaf-requires : tie.Need-down-leaf-requires
 down-leaf-requires c κs =
     let k = c .before in let f = k .before .before in
-    (module-below (f .before .before .args .v) _ (sym (f .token-of .ensures) ∙ k .token2 .given .1), omega (arith, f .before .before .pre .0 .nodes))
+    (module-below _ (f .before .before .args .v) (sym (f .token-of .ensures) ∙ k .token2 .given .1), omega (arith, f .before .before .pre .0 .nodes))
 
 enum-told : tie.Need-enum-told
 enum-told c = search needs

@@ -1,5 +1,4 @@
 -- `editing::changed_node` meets its contract: a module's leaf is where its token first stands. Assumes nothing.
-use mathlib.Core.Path.{_∙_}
 use borrow.Author.Needs.{needs}
 use Rattle.rules.specs.Edit.{changedNode}
 use Rattle.editing.proofs.Naming.{changed-module}

@@ -1,5 +1,5 @@
--- The code tests the module's number against m, then its mark, as the definition does; m is at most 16, so the mark is there, and
--- the count is small enough to grow by one. Assumes nothing.
+-- The code tests the module's number against m, then its mark, as the definition does; m is within its limit, so the mark is there,
+-- and the count is small enough to grow by one. Assumes nothing.
 use native.Mathlib.Omega.{arith}
 use borrow.Author.Needs.{needs}
 use borrow.Author.Tests.{lt-ltb, le-ltb}

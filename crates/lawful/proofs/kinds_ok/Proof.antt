@@ -1,4 +1,4 @@
--- While the loop goes on, every kind so far is one of 01's; the first that is not settles it. The width is at most 64, so every
+-- While the loop goes on, every kind so far is one of 01's; the first that is not settles it. The width is within its limit, so every
 -- kind read is in the array. Assumes nothing.
 use mathlib.Core.Path.{_≡_, sym}
 use mathlib.Core.Bool.{true}
@@ -8,16 +8,17 @@ use lib.Dec.{leb}
 use borrow.Author.Needs.{needs}
 use borrow.Author.Tests.{le-leb, lt-leb}
 use Rattle.rules.specs.Search.{all}
-use Rattle.rules.specs.Design.{kindAt, lastKind}
+use Rattle.rules.specs.Chip.{kindAt}
+use Rattle.rules.specs.Design.{lastKind}
 use Rattle.rules.proofs.Testing.{all-none, all-more, all-fails}
 use Rattle.lawful.proofs.kinds_ok.Statement.{statement}
 use Rattle.lawful.proofs.kinds_ok.Tie as tie
 
 abbrev Inv-loop : tie.InvT-loop
-Inv-loop d w x₀ x = (x ≤ w) × (all x (λ i. leb (kindAt d i) lastKind) ≡ true)
+Inv-loop chip w x₀ x = (x ≤ w) × (all x (λ i. leb (kindAt chip i) lastKind) ≡ true)
 
 abbrev μ-loop : tie.MeasureT-loop
-μ-loop d w x₀ x = w - x
+μ-loop chip w x₀ x = w - x
 
 loop-holds : tie.Need-loop-holds Inv-loop μ-loop
 loop-holds c = (search needs, all-none _)

@@ -1,4 +1,4 @@
--- While the loop goes on, every need so far is lawful; the first that is not settles it. There are at most 16 modules, so every
+-- While the loop goes on, every need so far is lawful; the first that is not settles it. The modules are within their limit, so every
 -- need read is in the array. Assumes nothing.
 use mathlib.Core.Path.{_≡_, sym}
 use mathlib.Core.Bool.{true}

@@ -51,8 +51,8 @@ element-copy-out-need c =
 
 leaf-node-requires : tie.Need-leaf-node-requires
 leaf-node-requires c κs =
-    let k = c .before .before .before .before .before .before in let f = k .before .before in let p = f .before .before .before .before .pre in
-    leaf-room (p .0) (p .1) (f .before .before .board-of .ensures) (search needs)
+    let k = c .before .before .before .before in let f = k .before .before in let p = f .before .before .before .before .pre in
+    leaf-room (p .0) (p .1) (f .before .before .board-of .ensures)
 
 enum-told : tie.Need-enum-told
 enum-told c = search needs
@@ -70,7 +70,7 @@ same-length-2 c = search needs
 
 returns-2 : tie.Need-returns-2
 returns-2 c =
-    let k = c .before .before .before .before .before .before .before .before .before in let f = k .before .before in let p = f .before .before .before .before .pre in
+    let k = c .before .before .before .before .before .before .before in let f = k .before .before in let p = f .before .before .before .before .pre in
     leaf-made (p .0) (p .1) (f .before .before .board-of .ensures) (sym (f .token-of .ensures) ∙ k .token2 .given .1) (c .before .before .leaf-node .ensures)
 
 returns-3 : tie.Need-returns-3

@@ -1,5 +1,7 @@
 -- The stages are the rules' reading, so the first that is refused ends both. Assumes nothing.
 use mathlib.Core.Path.{_≡_}
+use native.Mathlib.Omega.{arith}
+use lib.ListN.{length}
 use borrow.Author.Needs.{needs}
 use borrow.Author.Tests.{eq-eqb, ne-eqb}
 use denote.Ref.{now}
@@ -119,7 +121,8 @@ returns-5 : tie.Need-returns-5
 returns-5 c =
     let tree = c .before .before .before .before in let modules = tree .before .before .before in
     let columns = modules .before .before .before in let sizes = columns .before .before .before in
-    let o = ne-eqb _ _ (c .before .before .if1 .taken) in
+    let end = tree .before .before .read-tokens .result .next in let long = length (now (sizes .before .before .before .before .args .s)) in
+    let o = ne-eqb end long (λ e. omega arith) in
     simp (in-stages, sizes-done sizes, kinds-done columns, needs-done modules, tree-done tree, o)
     (rw (c .before .stopped .ensures) at (c .hand-back5 .ensures))
 
@@ -130,7 +133,8 @@ returns-6 : tie.Need-returns-6
 returns-6 c =
     let tree = c .before .before .before in let modules = tree .before .before .before in
     let columns = modules .before .before .before in let sizes = columns .before .before .before in
-    let o = eq-eqb _ _ (c .before .if1 .left) in
+    let end = tree .before .before .read-tokens .result .next in let long = length (now (sizes .before .before .before .before .args .s)) in
+    let o = eq-eqb end long (omega arith) in
     simp (in-stages, sizes-done sizes, kinds-done columns, needs-done modules, tree-done tree, o)
     (rw (tree .enum-told7 .given .1) at (c .hand-back6 .ensures))
 

@@ -11,12 +11,12 @@ use Rattle.reading.proofs.read_kinds.Statement.{statement}
 use Rattle.reading.proofs.read_kinds.Tie as tie
 
 abbrev Inv-loop : tie.InvT-loop
-Inv-loop s design w kinds₀ at₀ x₀ kinds at x =
+Inv-loop s design chip w kinds₀ at₀ x₀ kinds at x =
     let kind = checkedAt lawfulKind BreaksLimits s in
     (x ≤ w) × Reading mostColumns 0 (rowAt kind w at₀) (rowAt kind (w - x) at) x kinds
 
 abbrev μ-loop : tie.MeasureT-loop
-μ-loop s design w kinds₀ at₀ x₀ kinds at x = w - x
+μ-loop s design chip w kinds₀ at₀ x₀ kinds at x = w - x
 
 loop-holds : tie.Need-loop-holds Inv-loop μ-loop
 unfolding padded

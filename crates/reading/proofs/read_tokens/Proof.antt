@@ -1,12 +1,13 @@
 -- While the loop goes on, what is still to be read, put behind the tokens in the array, is the whole row, and the stack mirrors
 -- what stands. Assumes nothing.
 use Prim.Native.Nat.{_-_, _≤_}
+use native.Mathlib.Omega.{arith}
 use borrow.Author.Needs.{needs}
 use borrow.Author.Tests.{not-true, not-false}
 use Rattle.rules.specs.Bytes.{padded}
 use Rattle.reading.specs.Stages.{stage, treeAt}
 use Rattle.reading.proofs.Answers.{number-taken, number-refused}
-use Rattle.reading.proofs.Trees.{ReadingTokens, tokens-begun, token-unread, token-over, token-bad, token-kept}
+use Rattle.reading.proofs.Trees.{ReadingTokens, tokens-begun, token-unread, token-bad, token-byte, token-kept}
 use Rattle.reading.proofs.Trees.{one-stands, not-one-stands}
 use Rattle.reading.proofs.read_tokens.Statement.{statement}
 use Rattle.reading.proofs.read_tokens.Tie as tie
@@ -50,8 +51,11 @@ returns c =
     simp (token-unread (l .before .loop .inv .1) (l .loop-test .taken) (number-refused _ _ (n .take-number .ensures) q))
     (rw q at (c .stopped .ensures))
 
-add-if1 : tie.Need-add-if1 Inv-loop μ-loop
-add-if1 c = search needs
+token-of-number-requires : tie.Need-token-of-number-requires Inv-loop μ-loop
+token-of-number-requires c κs = search needs
+
+after-token-requires : tie.Need-after-token-requires Inv-loop μ-loop
+after-token-requires c κs = search needs
 
 stopped-requires-2 : tie.Need-stopped-requires-2 Inv-loop μ-loop
 stopped-requires-2 c κs = search needs
@@ -59,33 +63,19 @@ stopped-requires-2 c κs = search needs
 returns-2 : tie.Need-returns-2 Inv-loop μ-loop
 unfolding stage treeAt
 returns-2 c =
-    let n = c .before .before .before in let l = n .before .before .before in
+    let p = c .before .before .before in let n = p .before .before .before in let l = n .before .before .before in
     let q = number-taken _ _ (n .before .before .take-number .ensures) (n .number .given .1) in
-    simp (token-over (l .before .loop .inv .1) (l .loop-test .taken) q (c .before .if1 .taken)) (c .stopped2 .ensures)
-
-cast-token-of : tie.Need-cast-token-of Inv-loop μ-loop
-cast-token-of c = search needs
-
-token-of-requires : tie.Need-token-of-requires Inv-loop μ-loop
-token-of-requires c κs = search needs
-
-after-token-requires : tie.Need-after-token-requires Inv-loop μ-loop
-after-token-requires c κs = search needs
-
-stopped-requires-3 : tie.Need-stopped-requires-3 Inv-loop μ-loop
-stopped-requires-3 c κs = search needs
-
-returns-3 : tie.Need-returns-3 Inv-loop μ-loop
-unfolding stage treeAt
-returns-3 c =
-    let p = c .before .before .before in let n = p .before .before .before .before in let l = n .before .before .before in
-    let q = number-taken _ _ (n .before .before .take-number .ensures) (n .number .given .1) in
-    let u = p .before .token-of .ensures in let o = not-true _ (c .before .if2 .taken) in
+    let u = p .before .token-of-number .ensures in let o = not-true _ (c .before .if1 .taken) in
     simp (token-bad (l .before .loop .inv .1) (l .loop-test .taken) q (search needs) u (p .after-token .ensures) o)
-    (c .stopped3 .ensures)
+    (c .stopped2 .ensures)
 
 cast-tokens : tie.Need-cast-tokens Inv-loop μ-loop
-cast-tokens c = search needs
+cast-tokens c =
+    let p = c .before .before .before in let n = p .before .before .before in let l = n .before .before .before in
+    let q = number-taken _ _ (n .before .before .take-number .ensures) (n .number .given .1) in
+    let u = p .before .token-of-number .ensures in
+    let b = token-byte (l .before .loop .inv .1) (l .loop-test .taken) q (search needs) u (p .after-token .ensures) in
+    omega (arith, b (not-false _ (c .before .if1 .left)))
 
 array-write-tokens : tie.Need-array-write-tokens Inv-loop μ-loop
 array-write-tokens c = search needs
@@ -98,26 +88,26 @@ loop-less c = search needs
 
 loop-again : tie.Need-loop-again Inv-loop μ-loop
 loop-again c =
-    let p = c .before .before .before in let n = p .before .before .before .before in let l = n .before .before .before in
+    let p = c .before .before .before in let n = p .before .before .before in let l = n .before .before .before in
     let q = number-taken _ _ (n .before .before .take-number .ensures) (n .number .given .1) in
-    let u = p .before .token-of .ensures in let o = not-false _ (c .before .if2 .left) in
+    let u = p .before .token-of-number .ensures in let o = not-false _ (c .before .if1 .left) in
     let k = token-kept (l .before .loop .inv .1) (l .loop-test .taken) q (search needs) u (p .after-token .ensures) o in
     (search needs, k (search needs))
 
-stopped-requires-4 : tie.Need-stopped-requires-4 Inv-loop μ-loop
-stopped-requires-4 c κs = search needs
+stopped-requires-3 : tie.Need-stopped-requires-3 Inv-loop μ-loop
+stopped-requires-3 c κs = search needs
+
+returns-3 : tie.Need-returns-3 Inv-loop μ-loop
+unfolding stage treeAt
+returns-3 c =
+    let l = c .before .before .before in
+    simp (not-one-stands (l .before .loop .inv .1) (l .loop-test .left) (c .before .if2 .taken)) (c .stopped3 .ensures)
 
 returns-4 : tie.Need-returns-4 Inv-loop μ-loop
 unfolding stage treeAt
 returns-4 c =
-    let l = c .before .before .before in
-    simp (not-one-stands (l .before .loop .inv .1) (l .loop-test .left) (c .before .if3 .taken)) (c .stopped4 .ensures)
-
-returns-5 : tie.Need-returns-5 Inv-loop μ-loop
-unfolding stage treeAt
-returns-5 c =
     let l = c .before .before in let i = l .before .loop .inv .1 in
-    simp (one-stands i (l .loop-test .left) (c .if3 .left), i .reading .kept)
+    simp (one-stands i (l .loop-test .left) (c .if2 .left), i .reading .kept)
 
 pub read-tokens-spec : {M : Type 1} → statement M
 read-tokens-spec =
@@ -134,19 +124,15 @@ read-tokens-spec =
     enum-told
     stopped-requires
     returns
-    add-if1
+    token-of-number-requires
+    after-token-requires
     stopped-requires-2
     returns-2
-    cast-token-of
-    token-of-requires
-    after-token-requires
-    stopped-requires-3
-    returns-3
     cast-tokens
     array-write-tokens
     add-t
     loop-less
     loop-again
-    stopped-requires-4
-    returns-4
-    returns-5)
+    stopped-requires-3
+    returns-3
+    returns-4)

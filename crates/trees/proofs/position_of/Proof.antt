@@ -1,43 +1,48 @@
 -- While the loop goes on, no position so far has the token, so what is left of the search gives what all of it gives.
 -- Assumes nothing.
-use Prim.Native.Nat.{_+_, _-_, _≤_}
+use mathlib.Core.Path.{_≡_, sym, _∙_, ap}
+use Prim.Native.Nat.{_-_, _≤_}
 use native.Mathlib.Omega.{arith}
-use lib.Dec.{eqb}
-use lib.ListN.{getD}
 use borrow.Author.Needs.{needs}
-use borrow.Author.Tests.{eq-eqb, ne-eqb}
-use Rattle.trees.specs.Positions.{mostNodes}
+use Rattle.rules.specs.Tree.{isModule}
+use Rattle.rules.specs.Design.{mostTokens, tokenAt}
+use Rattle.rules.proofs.Limits.{limits}
 use Rattle.trees.proofs.Seeking.{Seeking, seek-starts, seek-on, seek-hit, seek-ends}
-use Rattle.trees.proofs.Lefts.{few-nodes}
 use Rattle.trees.proofs.position_of.Statement.{statement}
 use Rattle.trees.proofs.position_of.Tie as tie
 
 abbrev Inv-loop : tie.InvT-loop
-Inv-loop k design nodes t₀ t = (t ≤ nodes) × (nodes ≤ mostNodes) × Seeking (λ i. eqb (getD (design .tokens) i 0) (k + 2)) nodes t
+Inv-loop k design nodes t₀ t = (t ≤ nodes) × (nodes ≤ mostTokens) × Seeking (λ i. isModule k (tokenAt design i)) nodes t
 
 abbrev μ-loop : tie.MeasureT-loop
 μ-loop k design nodes t₀ t = nodes - t
 
 mul-nodes : tie.Need-mul-nodes Inv-loop μ-loop
-mul-nodes c = omega (arith, few-nodes _ (c .pre .0) .1)
+mul-nodes c = omega (arith, limits _ (c .pre .0) .modules)
 
 sub-nodes : tie.Need-sub-nodes Inv-loop μ-loop
-sub-nodes c = omega (arith, few-nodes _ (c .pre .0) .0)
+sub-nodes c = omega (arith, limits _ (c .pre .0) .some)
 
 loop-holds : tie.Need-loop-holds Inv-loop μ-loop
-loop-holds c = (omega arith, omega (arith, few-nodes _ (c .pre .0) .1), seek-starts)
+loop-holds c = (omega arith, omega (arith, limits _ (c .pre .0) .modules), seek-starts)
 
-element-copy-out-if1 : tie.Need-element-copy-out-if1 Inv-loop μ-loop
-element-copy-out-if1 c = search needs
+element-copy-out-token-of : tie.Need-element-copy-out-token-of Inv-loop μ-loop
+element-copy-out-token-of c = search needs
 
-cast-if1 : tie.Need-cast-if1 Inv-loop μ-loop
-cast-if1 c = search needs
+token-of-requires : tie.Need-token-of-requires Inv-loop μ-loop
+token-of-requires c κs = search needs
 
-add-if1 : tie.Need-add-if1 Inv-loop μ-loop
-add-if1 c = omega (arith, few-nodes _ (c .before .before .before .pre .0) .1)
+is-module-requires : tie.Need-is-module-requires Inv-loop μ-loop
+is-module-requires c κs = search needs
+
+-- the code asks whether the token is the module's
+asked : (c : tie.After-is-module Inv-loop μ-loop) → let l = c .before .before .before .before in
+    isModule (l .before .args .k) (tokenAt (l .before .args .t1) (l .loop .t)) ≡ c .is-module .result
+asked c = let k = c .before .before .before .before .before .args .k in sym (c .is-module .ensures ∙ ap (isModule k) (c .before .token-of .ensures))
 
 returns : tie.Need-returns Inv-loop μ-loop
-returns c = let l = c .before .before .before in seek-hit (l .loop .inv .2) (omega arith) (eq-eqb _ _ (c .if1 .taken))
+returns c =
+    let l = c .before .before .before .before .before in seek-hit (l .loop .inv .2) (omega arith) (asked (c .before) ∙ c .if1 .taken)
 
 add-t : tie.Need-add-t Inv-loop μ-loop
 add-t c = search needs
@@ -47,8 +52,8 @@ loop-less c = search needs
 
 loop-again : tie.Need-loop-again Inv-loop μ-loop
 loop-again c =
-    let l = c .before .before .before in
-    (omega arith, l .loop .inv .1, seek-on (l .loop .inv .2) (omega arith) (ne-eqb _ _ (c .if1 .left)))
+    let l = c .before .before .before .before .before in
+    (omega arith, l .loop .inv .1, seek-on (l .loop .inv .2) (omega arith) (asked (c .before) ∙ c .if1 .left))
 
 returns-2 : tie.Need-returns-2 Inv-loop μ-loop
 returns-2 c = seek-ends (c .before .loop .inv .2) (omega arith)
@@ -62,9 +67,9 @@ position-of-spec =
     mul-nodes
     sub-nodes
     loop-holds
-    element-copy-out-if1
-    cast-if1
-    add-if1
+    element-copy-out-token-of
+    token-of-requires
+    is-module-requires
     returns
     add-t
     loop-less
