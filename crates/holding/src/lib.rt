@@ -1,12 +1,14 @@
 // What a rectangle on the chip holds, counted column by column, and whether it suits a module.
+use rules::Chip;
 use rules::Design;
 use rules::Need;
 use rules::Rectangle;
 use rules::Rows;
 ghost use mathlib.Core.Path.{_≡_};
+ghost use mathlib.Core.Bool.{So};
 ghost use Prim.Native.Nat.{_*_, _≤_, _<_};
 ghost use Rattle.rules.specs.Chip.{OnChip, holds};
-ghost use Rattle.rules.specs.Design.{mostColumns, mostRows, chipOf, LawfulDesign};
+ghost use Rattle.rules.specs.Design.{mostColumns, mostRows, widthOf, heightOf, lawfulChip, LawfulDesign};
 ghost use Rattle.rules.specs.Check.{isAtMost, isSuited};
 ghost use Rattle.rules.proofs.Test.{blocksBetween};
 ghost use Rattle.holding.specs.Held.{EachUpTo, withColumn};
@@ -56,11 +58,11 @@ fn with_column(held: Need, kind: u8, column: Need) -> Need
 }
 
 // What a rectangle on the chip holds of each kind, counted column by column.
-fn held(d: Design, r: Rectangle) -> Need
-    requires { ⌜ LawfulDesign d × OnChip (d .width .0) (d .height .0) r ⌝ }
-    ensures { λ n. ⌜ n ≡ holds (chipOf d) r ⌝ }
+fn held(chip: Chip, r: Rectangle) -> Need
+    requires { ⌜ So (lawfulChip chip) × OnChip (chip .width .0) (chip .height .0) r ⌝ }
+    ensures { λ n. ⌜ n ≡ holds chip r ⌝ }
 {
-    let blocks = blocks_between(d.block, r.corner.y, Rows(r.corner.y.0 + r.shape.h.0));
+    let blocks = blocks_between(chip.block, r.corner.y, Rows(r.corner.y.0 + r.shape.h.0));
     let column = Need {
         clbs: r.shape.h.0,
         rams: blocks,
@@ -74,7 +76,7 @@ fn held(d: Design, r: Rectangle) -> Need
         multipliers: 0,
     };
     for x in left..right {
-        held = with_column(held, d.kinds[x], column);
+        held = with_column(held, chip.kinds[x], column);
     }
     held
 }
@@ -94,8 +96,8 @@ fn is_at_most(need: Need, held: Need) -> bool
 
 // A rectangle on the chip holds what module k needs.
 pub fn suits(design: Design, k: usize, r: Rectangle) -> bool
-    requires { ⌜ LawfulDesign design × (k < design .modules) × OnChip (design .width .0) (design .height .0) r ⌝ }
+    requires { ⌜ LawfulDesign design × (k < design .modules) × OnChip (widthOf design) (heightOf design) r ⌝ }
     ensures { λ is. ⌜ is ≡ isSuited design k r ⌝ }
 {
-    is_at_most(design.needs[k], held(design, r))
+    is_at_most(design.needs[k], held(design.chip, r))
 }

@@ -7,6 +7,7 @@ use Prim.Native.Nat.{ℕ, suc, _+_, _-_, _<_}
 use native.Mathlib.Omega.{arith}
 use native.Mathlib.Decide.{decLt}
 use lib.ListN.{length}
+use Rattle.rules.specs.declared.Chip.{Chip}
 use Rattle.rules.specs.declared.Corner.{Corner}
 use Rattle.rules.specs.Chip.{corner}
 use Rattle.rules.specs.Slot.{CornerOn}
@@ -18,22 +19,24 @@ use Rattle.slots.proofs.Writing.{SameCorner, one-done, both-done, all-done}
 use Rattle.leaves.specs.Leaf.{LeafRoom, NodeRoom, inRow, below}
 
 -- each corner has its room
-pub corner-room : {b : Board} {t : ℕ} {kinds work : List ℕ} (x y : ℕ) → x < b .width .0 → y < b .height .0 → NodeRoom b t kinds work → LeafRoom b t (corner x y) kinds work
-corner-room {b} {t} {kinds} {work} x y hx hy r =
+pub corner-room : {b : Board} {C : Chip} {t : ℕ} {work : List ℕ} (x y : ℕ) → x < b .width .0 → y < b .height .0 → NodeRoom b C t work
+    → LeafRoom b C t (corner x y) work
+corner-room {b} {C} {t} {work} x y hx hy r =
     let on : CornerOn (b .width .0) (b .height .0) (corner x y) = record { column = hx; row = hy } in
     record {
-      at = record { columns = r .columns; rows = r .rows; block = r .block; blocks = r .blocks; corner = on; kinds = r .kinds };
+      lawful = r .lawful;
+      width = r .width;
+      height = r .height;
+      corner = on;
       node = r .node;
       slot = let a = slot-within (b .width .0) (b .height .0) (suc t) t (b .width .0 - 1) (corner x y) (omega arith) on (omega arith) in let s = r .slots in omega arith;
     }
 
-pub node-room-kept : {b : Board} {t : ℕ} {kinds work work' : List ℕ} → length work' ≡ length work → NodeRoom b t kinds work → NodeRoom b t kinds work'
+pub node-room-kept : {b : Board} {C : Chip} {t : ℕ} {work work' : List ℕ} → length work' ≡ length work → NodeRoom b C t work → NodeRoom b C t work'
 node-room-kept e r = record {
-  columns = r .columns;
-  rows = r .rows;
-  block = r .block;
-  blocks = r .blocks;
-  kinds = r .kinds;
+  lawful = r .lawful;
+  width = r .width;
+  height = r .height;
   node = r .node;
   slots = let s = r .slots in omega arith;
 }

@@ -13,18 +13,21 @@ use lib.Dec.{ltb, eqb}
 use lib.ListN.{length, getD, set, replicate, length-set, length-replicate}
 use lib.Seq.{getD-set-same, getD-set-other}
 use borrow.Author.Tests.{lt-ltb, le-ltb, le-leb, lt-leb, ne-eqb}
+use Rattle.rules.specs.declared.Chip.{Chip}
 use Rattle.rules.specs.declared.Corner.{Corner}
 use Rattle.rules.specs.declared.Need.{Need}
+use Rattle.rules.specs.Chip.{kindAt}
 use Rattle.rules.specs.Design.{mostColumns}
 use Rattle.rules.specs.Slot.{slotStart}
-use Rattle.rules.proofs.Test.{onlyIf, listByte}
+use Rattle.rules.proofs.Test.{onlyIf, listByte, suitsRoom}
+use Rattle.rules.proofs.Limits.{ChipLimits, chip-limits}
 use Rattle.rules.proofs.Rooms.{Rising, rising}
 use Rattle.rules.proofs.Suiting.{suits-growing}
 use Rattle.slots.specs.declared.Board.{Board}
-use Rattle.slots.specs.Written.{Filled, SlotIs}
+use Rattle.slots.specs.Written.{Filled}
 use Rattle.slots.proofs.Filling.{same-filled, slot-filled}
 use Rattle.leaves.specs.declared.ByKind.{ByKind}
-use Rattle.leaves.specs.Leaf.{chipWith, leafSuits, leafBytes, CornerRoom, LeafRoom, suitsIn, Within, StopsAt, byKind, oneMore, heightTo, trialTop, trialHeight, Trials, listedOf}
+use Rattle.leaves.specs.Leaf.{leafBytes, CornerRoom, LeafRoom, SlotListed, suitsIn, FewerThan, Within, StopsAt, byKind, oneMore, heightTo, trialTop, trialHeight, Trials, listedOf}
 use Rattle.leaves.proofs.Counting.{countsOf, suits-is, counts-none, counts-next, counts-most}
 use Rattle.leaves.proofs.Lowering.{lowest-from, lowest-none, lowest-next}
 
@@ -38,12 +41,12 @@ none-tried (suc n) zero = refl
 none-tried (suc n) (suc j) = none-tried n j
 
 -- what stands when n widths have been tried at a corner
-pub record Tried (b : Board) (kinds : List ℕ) (need : Need) (c : Corner) (n : ℕ) (counts : ByKind) (far : ℕ) (heights : List ℕ) : Type 0 where
-  pub room : CornerRoom b c kinds
-  pub columns : counts ≡ countsOf kinds (c .x .0) n
-  pub top : far ≡ trialTop b kinds need c n
+pub record Tried (C : Chip) (need : Need) (c : Corner) (n : ℕ) (counts : ByKind) (far : ℕ) (heights : List ℕ) : Type 0 where
+  pub room : CornerRoom C c
+  pub columns : counts ≡ countsOf C (c .x .0) n
+  pub top : far ≡ trialTop C need c n
   pub long : length heights ≡ mostColumns
-  pub done : (j : ℕ) → j < n → getD heights j 0 ≡ trialHeight b kinds need c (suc j)
+  pub done : (j : ℕ) → j < n → getD heights j 0 ≡ trialHeight C need c (suc j)
   pub rest : (j : ℕ) → n ≤ j → getD heights j 0 ≡ 0
 
 -- what is listed of the height at j, after the height at j - 1
@@ -69,59 +72,65 @@ listed-height H c t t' p q p' q' = go (decLe t H) (decLe t' H) (decLt t t')
     go (yes h) (yes k) (no l) =
         simp (le-leb t H h, le-leb t' H k, some t p, some t' p', le-ltb t t' (omega arith), le-ltb (t - c) (t' - c) (omega arith))
 
-module _ (b : Board) (kinds : List ℕ) (need : Need) (c : Corner) (room : CornerRoom b c kinds) where
-  leaf-rising : Rising (b .width .0) (b .height .0) (leafSuits b kinds need) (c .x .0) (c .y .0)
-  unfolding chipWith
-  leaf-rising = rising (suits-growing (chipWith (b .width .0) (b .height .0) (b .block .0) kinds) need) (c .x .0) (c .y .0)
+module _ (C : Chip) (need : Need) (c : Corner) (room : CornerRoom C c) where
+  leaf-rising : Rising (C .width .0) (C .height .0) (suitsRoom C need) (c .x .0) (c .y .0)
+  leaf-rising = rising (suits-growing C need) (c .x .0) (c .y .0)
 
-  top-from : (n : ℕ) → (c .y .0 < trialTop b kinds need c n) × (trialTop b kinds need c n ≤ b .height .0 + 1)
+  top-from : (n : ℕ) → (c .y .0 < trialTop C need c n) × (trialTop C need c n ≤ C .height .0 + 1)
   top-from n = lowest-from leaf-rising (room .corner .row) (c .x .0 + n)
 
   -- no width, and a width beyond the chip, have no trial height
-  no-top : (n : ℕ) → (n ≡ 0) ⊎ (b .width .0 < c .x .0 + n) → trialTop b kinds need c n ≡ b .height .0 + 1
+  no-top : (n : ℕ) → (n ≡ 0) ⊎ (C .width .0 < c .x .0 + n) → trialTop C need c n ≡ C .height .0 + 1
   no-top n o = lowest-none leaf-rising (room .corner .row) (c .x .0 + n) (⊎-elim (λ (e : n ≡ 0). inl (omega arith)) inr o)
 
-  no-trial : (n : ℕ) → (n ≡ 0) ⊎ (b .width .0 < c .x .0 + n) → 0 ≡ trialHeight b kinds need c n
-  no-trial n o = rw (no-top n o) (simp (lt-leb (b .height .0 + 1) (b .height .0) (omega arith)))
+  no-trial : (n : ℕ) → (n ≡ 0) ⊎ (C .width .0 < c .x .0 + n) → 0 ≡ trialHeight C need c n
+  no-trial n o = rw (no-top n o) (simp (lt-leb (C .height .0 + 1) (C .height .0) (omega arith)))
 
-pub tried-none : {b : Board} {kinds : List ℕ} {need : Need} {c : Corner} → CornerRoom b c kinds → Tried b kinds need c 0 (byKind 0 0 0) (b .height .0 + 1) (zeros mostColumns)
-tried-none {b} {kinds} {need} {c} room = record {
+pub tried-none : {C : Chip} {need : Need} {c : Corner} → CornerRoom C c → Tried C need c 0 (byKind 0 0 0) (C .height .0 + 1) (zeros mostColumns)
+tried-none {C} {need} {c} room = record {
   room = room;
-  columns = counts-none kinds (c .x .0);
-  top = sym (no-top b kinds need c room 0 (inl refl));
+  columns = counts-none C (c .x .0);
+  top = sym (no-top C need c room 0 (inl refl));
   long = length-replicate {A = ℕ} mostColumns 0;
   done = λ j h. absurd (omega arith);
   rest = λ j h. none-tried mostColumns j;
 }
 
-module _ {b : Board} {kinds : List ℕ} {need : Need} {c : Corner} {n far : ℕ} {counts : ByKind} {heights : List ℕ} (z : Tried b kinds need c n counts far heights) where
+module _ {C : Chip} {need : Need} {c : Corner} {n far : ℕ} {counts : ByKind} {heights : List ℕ} (z : Tried C need c n counts far heights) where
   -- all widths tried
-  pub tried-all : b .width .0 ≤ c .x .0 + n → Trials b kinds need c heights
+  pub tried-all : C .width .0 ≤ c .x .0 + n → Trials C need c heights
   tried-all h = record { each = λ j. go j (decLt j n) }
     where
-      go : (j : ℕ) → Dec (j < n) → getD heights j 0 ≡ trialHeight b kinds need c (suc j)
+      go : (j : ℕ) → Dec (j < n) → getD heights j 0 ≡ trialHeight C need c (suc j)
       go j (yes k) = z .done j k
-      go j (no k) = z .rest j (omega arith) ∙ no-trial b kinds need c (z .room) (suc j) (inr (omega arith))
+      go j (no k) = z .rest j (omega arith) ∙ no-trial C need c (z .room) (suc j) (inr (omega arith))
 
-  module _ (within : c .x .0 + n < b .width .0) where
-    pub few : (counts .clbs .0 < mostColumns) × (counts .rams .0 < mostColumns) × (counts .multipliers .0 < mostColumns)
-    few = omega (arith, counts-most kinds (c .x .0) n (z .columns), z .room .columns)
+  module _ (within : c .x .0 + n < C .width .0) where
+    limits : ChipLimits C
+    limits = chip-limits C (z .room .lawful)
 
-    module _ {counts' : ByKind} (more : counts' ≡ oneMore counts (getD kinds (c .x .0 + n) 0)) where
-      counts-are : counts' ≡ countsOf kinds (c .x .0) (suc n)
-      counts-are = more ∙ rw (z .columns) (counts-next kinds (c .x .0) n)
+    pub few : FewerThan mostColumns counts
+    few = let l = limits in let m = counts-most C (c .x .0) n (z .columns) in record { clbs = omega arith; rams = omega arith; multipliers = omega arith }
 
-      pub tried-within : (c .y .0 < far) × Within counts' (b .block .0) (far - 1)
+    module _ {counts' : ByKind} (more : counts' ≡ oneMore counts (kindAt C (c .x .0 + n))) where
+      counts-are : counts' ≡ countsOf C (c .x .0) (suc n)
+      counts-are = more ∙ rw (z .columns) (counts-next C (c .x .0) n)
+
+      pub tried-within : (c .y .0 < far) × Within counts' (C .block .0) (far - 1)
       tried-within =
-          let m = counts-most kinds (c .x .0) (suc n) counts-are in let t = top-from b kinds need c (z .room) n in let e = z .top in
-          let w = z .room .columns in let h = z .room .rows in let l = z .room .blocks in (
+          let m = counts-most C (c .x .0) (suc n) counts-are in let t = top-from C need c (z .room) n in let e = z .top in let l = limits in (
             omega arith,
-            record { clbs = omega arith; rams = omega arith; multipliers = omega arith; block = z .room .block; blocks = omega arith; rows = omega arith },
+            record {
+              counts = record { clbs = omega arith; rams = omega arith; multipliers = omega arith };
+              block = l .some-rows;
+              blocks = omega arith;
+              rows = omega arith;
+            },
           )
 
       -- one width more
-      pub tried-next : {far' v : ℕ} → StopsAt (suitsIn counts' need (b .block .0) (c .y .0)) (c .y .0) far far' → v ≡ heightTo far' (c .y .0) (b .height .0)
-          → Tried b kinds need c (n + 1) counts' far' (set heights n v)
+      pub tried-next : {far' v : ℕ} → StopsAt (suitsIn counts' need (C .block .0) (c .y .0)) (c .y .0) far far' → v ≡ heightTo far' (c .y .0) (C .height .0)
+          → Tried C need c (n + 1) counts' far' (set heights n v)
       tried-next {far'} {v} s e = rw add-one (record {
         room = z .room;
         columns = counts-are;
@@ -131,39 +140,43 @@ module _ {b : Board} {kinds : List ℕ} {need : Need} {c : Corner} {n far : ℕ}
         rest = λ j k. getD-set-other heights n j v 0 (λ q. omega arith) ∙ z .rest j (omega arith);
       })
         where
-          same : (d : ℕ) → c .y .0 < d → d ≤ b .height .0
-              → leafSuits b kinds need (c .x .0) (c .y .0) (suc (c .x .0 + n)) d ≡ suitsIn counts' need (b .block .0) (c .y .0) d
+          same : (d : ℕ) → c .y .0 < d → d ≤ C .height .0
+              → suitsRoom C need (c .x .0) (c .y .0) (suc (c .x .0 + n)) d ≡ suitsIn counts' need (C .block .0) (c .y .0) d
           same d p q =
               rw counts-are
-              (rw add-suc at (suits-is kinds (b .width .0) (b .height .0) (b .block .0) (c .x .0) (c .y .0) d (suc n) need (z .room .block) (omega arith) p q (omega arith)))
+              (rw add-suc at (suits-is C (c .x .0) (c .y .0) d (suc n) need (limits .some-rows) (omega arith) p q (omega arith)))
 
-          top-is : far' ≡ trialTop b kinds need c (suc n)
+          top-is : far' ≡ trialTop C need c (suc n)
           top-is =
               rw add-suc
-              (lowest-next (leaf-rising b kinds need c (z .room)) (z .room .corner .row) (c .x .0 + n) (suitsIn counts' need (b .block .0) (c .y .0)) within same (z .top) s)
+              (lowest-next (leaf-rising C need c (z .room)) (z .room .corner .row) (c .x .0 + n) (suitsIn counts' need (C .block .0) (c .y .0)) within same (z .top) s)
 
-          go : (j : ℕ) → j < suc n → Dec (j ≡ n) → getD (set heights n v) j 0 ≡ trialHeight b kinds need c (suc j)
+          go : (j : ℕ) → j < suc n → Dec (j ≡ n) → getD (set heights n v) j 0 ≡ trialHeight C need c (suc j)
           go j k (yes q) =
-              let w = z .room .columns in let l = z .long in
-              rw q (getD-set-same heights n v 0 (omega arith) ∙ e ∙ ap (λ t. heightTo t (c .y .0) (b .height .0)) top-is)
+              let w = limits .width in let l = z .long in
+              rw q (getD-set-same heights n v 0 (omega arith) ∙ e ∙ ap (λ t. heightTo t (c .y .0) (C .height .0)) top-is)
           go j k (no q) = getD-set-other heights n j v 0 q ∙ z .done j (omega arith)
 
 -- what is listed of the trial heights is the leaf's list
-module _ {b : Board} {kinds : List ℕ} {need : Need} {c : Corner} {heights : List ℕ} (room : CornerRoom b c kinds) (z : Trials b kinds need c heights) where
-  before-is : (j : ℕ) → heightBefore heights j ≡ trialHeight b kinds need c j
-  before-is zero = no-trial b kinds need c room 0 (inl refl)
+module _ {C : Chip} {need : Need} {c : Corner} {heights : List ℕ} (room : CornerRoom C c) (z : Trials C need c heights) where
+  before-is : (j : ℕ) → heightBefore heights j ≡ trialHeight C need c j
+  before-is zero = no-trial C need c room 0 (inl refl)
   before-is (suc j) = z .each j
 
-  trials-listed : (j : ℕ) → listedAt heights j ≡ leafBytes b kinds need c j
+  trials-listed : (j : ℕ) → listedAt heights j ≡ leafBytes C need c j
   unfolding listedAt listByte
   trials-listed j =
-      let (p, q) = top-from b kinds need c room (suc j) in let (p', q') = top-from b kinds need c room j in
-      rw (z .each j, before-is j) (listed-height (b .height .0) (c .y .0) (trialTop b kinds need c (suc j)) (trialTop b kinds need c j) p q p' q')
+      let (p, q) = top-from C need c room (suc j) in let (p', q') = top-from C need c room j in
+      rw (z .each j, before-is j) (listed-height (C .height .0) (c .y .0) (trialTop C need c (suc j)) (trialTop C need c j) p q p' q')
+
+-- the heights at a leaf's corner can be tried
+pub can-try : {b : Board} {C : Chip} {t : ℕ} {c : Corner} {work : List ℕ} → LeafRoom b C t c work → CornerRoom C c
+can-try room = record { lawful = room .lawful; corner = rw (room .width, room .height) at (room .corner) }
 
 -- the whole slot, written from the trial heights
-pub slot-listed : {b : Board} {kinds before after : List ℕ} {need : Need} {t start n : ℕ} {c : Corner} {heights : List ℕ} → LeafRoom b t c kinds before
-    → Trials b kinds need c heights → start ≡ slotStart (b .width .0) (b .height .0) t c → n ≡ b .width .0 → Filled before start n (listedAt heights) after
-    → SlotIs (b .width .0) (b .height .0) t c (leafBytes b kinds need c) before after
-slot-listed {b} {kinds} {before} {after} {need} {t} {start} {n} {c} room z es en f =
-    slot-filled (b .width .0) (b .height .0) t c (leafBytes b kinds need c) before after (room .slot)
-    (same-filled (leafBytes b kinds need c) (rw (es, en) at f) (λ j h. trials-listed (room .at) z j))
+pub slot-listed : {b : Board} {C : Chip} {before after : List ℕ} {need : Need} {t start n : ℕ} {c : Corner} {heights : List ℕ}
+    → LeafRoom b C t c before → Trials C need c heights → start ≡ slotStart (b .width .0) (b .height .0) t c → n ≡ b .width .0
+    → Filled before start n (listedAt heights) after → SlotListed b C need t c before after
+slot-listed {b} {C} {before} {after} {need} {t} {c = c} room z es en f =
+    slot-filled (b .width .0) (b .height .0) t c (leafBytes C need c) before after (room .slot)
+    (same-filled (leafBytes C need c) (rw (es, en) at f) (λ j h. trials-listed (can-try room) z j))

@@ -8,46 +8,37 @@ use lib.Dec.{leb, ltb, eqb}
 use lib.ListN.{length, getD}
 use Rattle.rules.specs.declared.Corner.{Corner}
 use Rattle.rules.specs.declared.Need.{Need}
-use Rattle.rules.specs.Chip.{Chip, columnOf}
-use Rattle.rules.specs.Design.{mostColumns, mostRows}
+use Rattle.rules.specs.declared.Chip.{Chip}
+use Rattle.rules.specs.Design.{mostColumns, mostRows, lawfulChip}
 use Rattle.rules.specs.Slot.{slotStart, CornerOn}
-use Rattle.rules.proofs.Test.{Test, onlyIf, blocksOf, lowest, listByte, suitsRoom}
+use Rattle.rules.proofs.Test.{onlyIf, blocksOf, lowest, listByte, suitsRoom}
 use Rattle.slots.specs.declared.Board.{Board}
+use Rattle.slots.specs.Written.{SlotIs, PartIs, NodeIs}
 use Rattle.leaves.specs.declared.ByKind.{ByKind}
 
--- the chip of these columns' kinds
-unfoldable pub chipWith : ℕ → ℕ → ℕ → List ℕ → Chip
-chipWith W H B kinds = record { width = W; height = H; column = λ x. columnOf H B (getD kinds x 0) }
+-- the bytes of a leaf's list at a corner
+abbrev pub leafBytes : Chip → Need → Corner → ℕ → ℕ
+leafBytes C need c = listByte (C .height .0) (suitsRoom C need) (c .x .0) (c .y .0)
 
--- which rooms suit a leaf, and the bytes of its list at a corner
-abbrev pub leafSuits : Board → List ℕ → Need → Test
-leafSuits b kinds need = suitsRoom (chipWith (b .width .0) (b .height .0) (b .block .0) kinds) need
+-- a corner of a lawful chip, where the heights are tried
+pub record CornerRoom (C : Chip) (c : Corner) : Type 0 where
+  pub lawful : So (lawfulChip C)
+  pub corner : CornerOn (C .width .0) (C .height .0) c
 
-abbrev pub leafBytes : Board → List ℕ → Need → Corner → ℕ → ℕ
-leafBytes b kinds need c = listByte (b .height .0) (leafSuits b kinds need) (c .x .0) (c .y .0)
-
--- a corner of a chip within the limits
-pub record CornerRoom (b : Board) (c : Corner) (ks : List ℕ) : Type 0 where
-  pub columns : b .width .0 ≤ mostColumns
-  pub rows : b .height .0 ≤ mostRows
-  pub block : 1 ≤ b .block .0
-  pub blocks : b .block .0 ≤ b .height .0
+-- what listing node t at a corner asks for: a lawful chip, its size, and a slot in the work bytes
+pub record LeafRoom (b : Board) (C : Chip) (t : ℕ) (c : Corner) (work : List ℕ) : Type 0 where
+  pub lawful : So (lawfulChip C)
+  pub width : b .width .0 ≡ C .width .0
+  pub height : b .height .0 ≡ C .height .0
   pub corner : CornerOn (b .width .0) (b .height .0) c
-  pub kinds : b .width .0 ≤ length ks
-
--- what listing node t there asks for: a slot for it in the work bytes too
-pub record LeafRoom (b : Board) (t : ℕ) (c : Corner) (kinds work : List ℕ) : Type 0 where
-  pub at : CornerRoom b c kinds
   pub node : t < 128
   pub slot : slotStart (b .width .0) (b .height .0) t c + b .width .0 ≤ length work
 
 -- what listing all its corners asks for
-pub record NodeRoom (b : Board) (t : ℕ) (ks work : List ℕ) : Type 0 where
-  pub columns : b .width .0 ≤ mostColumns
-  pub rows : b .height .0 ≤ mostRows
-  pub block : 1 ≤ b .block .0
-  pub blocks : b .block .0 ≤ b .height .0
-  pub kinds : b .width .0 ≤ length ks
+pub record NodeRoom (b : Board) (C : Chip) (t : ℕ) (work : List ℕ) : Type 0 where
+  pub lawful : So (lawfulChip C)
+  pub width : b .width .0 ≡ C .width .0
+  pub height : b .height .0 ≡ C .height .0
   pub node : t < 128
   pub slots : suc t * b .height .0 * b .width .0 * b .width .0 ≤ length work
 
@@ -58,17 +49,31 @@ inRow y x c = eqb (c .y .0) y && ltb (c .x .0) x
 abbrev pub below : ℕ → Corner → Bool
 below y c = ltb (c .y .0) y
 
+-- a leaf's list in the slot of node t at a corner, in those of row y, and in all its slots; no other byte changes
+abbrev pub SlotListed : Board → Chip → Need → ℕ → Corner → List ℕ → List ℕ → Type 0
+SlotListed b C need t c = SlotIs (b .width .0) (b .height .0) t c (leafBytes C need c)
+
+abbrev pub RowListed : Board → Chip → Need → ℕ → ℕ → List ℕ → List ℕ → Type 0
+RowListed b C need t y = PartIs (b .width .0) (b .height .0) t (leafBytes C need) (inRow y (b .width .0))
+
+abbrev pub NodeListed : Board → Chip → Need → ℕ → List ℕ → List ℕ → Type 0
+NodeListed b C need t = NodeIs (b .width .0) (b .height .0) t (leafBytes C need)
+
 -- so many columns of each kind hold the need between two rows
 unfoldable pub suitsIn : ByKind → Need → ℕ → ℕ → ℕ → Bool
 suitsIn n need B c d =
     leb (need .clbs) (n .clbs .0 * blocksOf 0 B c d) && leb (need .rams) (n .rams .0 * blocksOf 1 B c d)
     && leb (need .multipliers) (n .multipliers .0 * blocksOf 2 B c d)
 
+-- counts below a limit
+pub record FewerThan (most : ℕ) (n : ByKind) : Type 0 where
+  pub clbs : n .clbs .0 < most
+  pub rams : n .rams .0 < most
+  pub multipliers : n .multipliers .0 < most
+
 -- counts, a block's height and rows within the limits: no product of them is too large
 pub record Within (n : ByKind) (B d : ℕ) : Type 0 where
-  pub clbs : n .clbs .0 ≤ mostColumns
-  pub rams : n .rams .0 ≤ mostColumns
-  pub multipliers : n .multipliers .0 ≤ mostColumns
+  pub counts : FewerThan (suc mostColumns) n
   pub block : 1 ≤ B
   pub blocks : B ≤ mostRows
   pub rows : d ≤ mostRows
@@ -93,15 +98,15 @@ abbrev pub heightTo : ℕ → ℕ → ℕ → ℕ
 heightTo top c H = onlyIf (leb top H) (top - c)
 
 -- the least top side that suits at width n, or one above the chip; and the trial height at that width
-abbrev pub trialTop : Board → List ℕ → Need → Corner → ℕ → ℕ
-trialTop b kinds need c n = lowest (b .height .0) (leafSuits b kinds need) (c .x .0) (c .y .0) (c .x .0 + n)
+abbrev pub trialTop : Chip → Need → Corner → ℕ → ℕ
+trialTop C need c n = lowest (C .height .0) (suitsRoom C need) (c .x .0) (c .y .0) (c .x .0 + n)
 
-abbrev pub trialHeight : Board → List ℕ → Need → Corner → ℕ → ℕ
-trialHeight b kinds need c n = heightTo (trialTop b kinds need c n) (c .y .0) (b .height .0)
+abbrev pub trialHeight : Chip → Need → Corner → ℕ → ℕ
+trialHeight C need c n = heightTo (trialTop C need c n) (c .y .0) (C .height .0)
 
 -- the trial heights at one corner: that for width 1 at 0, for width 2 at 1, ..
-pub record Trials (b : Board) (kinds : List ℕ) (need : Need) (c : Corner) (heights : List ℕ) : Type 0 where
-  pub each : (j : ℕ) → getD heights j 0 ≡ trialHeight b kinds need c (suc j)
+pub record Trials (C : Chip) (need : Need) (c : Corner) (heights : List ℕ) : Type 0 where
+  pub each : (j : ℕ) → getD heights j 0 ≡ trialHeight C need c (suc j)
 
 -- a trial height that is less than the one before, or the first one; else 0
 unfoldable pub listedOf : ℕ → ℕ → ℕ

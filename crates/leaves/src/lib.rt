@@ -1,5 +1,6 @@
 // A leaf's slot at one corner, listed from its need.
 use holding::blocks_between;
+use rules::Chip;
 use rules::Columns;
 use rules::Corner;
 use rules::MOST_COLUMNS;
@@ -10,8 +11,8 @@ ghost use mathlib.Core.Path.{_≡_};
 ghost use Prim.Native.Nat.{_-_, _*_, _≤_, _<_};
 ghost use lib.Dec.{leb};
 ghost use Rattle.rules.specs.Design.{mostColumns, mostRows};
-ghost use Rattle.slots.specs.Written.{SlotIs, PartIs, NodeIs};
-ghost use Rattle.leaves.specs.Leaf.{leafBytes, CornerRoom, LeafRoom, NodeRoom, inRow, suitsIn, Within, StopsAt, oneMore, heightTo, Trials, listedOf};
+ghost use Rattle.leaves.specs.Leaf.{CornerRoom, LeafRoom, NodeRoom, SlotListed, RowListed, NodeListed};
+ghost use Rattle.leaves.specs.Leaf.{FewerThan, Within, suitsIn, StopsAt, oneMore, heightTo, Trials, listedOf};
 
 // How many columns of each kind lie side by side.
 struct ByKind {
@@ -62,7 +63,7 @@ fn least_top(columns: ByKind, need: Need, block: Rows, low: Rows, from: Rows) ->
 
 // The counts with one column more.
 fn one_more(columns: ByKind, kind: u8) -> ByKind
-    requires { ⌜ (columns .clbs .0 < mostColumns) × (columns .rams .0 < mostColumns) × (columns .multipliers .0 < mostColumns) ⌝ }
+    requires { ⌜ FewerThan mostColumns columns ⌝ }
     ensures { λ r. ⌜ r ≡ oneMore columns kind ⌝ }
 {
     ByKind {
@@ -85,23 +86,23 @@ fn height_to(top: Rows, low: Rows, height: Rows) -> u8
 }
 
 // The trial heights: for each width the least height that suits, or 0 where none does.
-fn trial_heights(board: Board, kinds: &[u8], need: Need, at: Corner) -> [u8; MOST_COLUMNS]
-    requires { ⌜ CornerRoom board at (now kinds) ⌝ }
-    ensures { λ r. ⌜ Trials board (now (kinds .entry)) need at r ⌝ }
+fn trial_heights(chip: Chip, need: Need, at: Corner) -> [u8; MOST_COLUMNS]
+    requires { ⌜ CornerRoom chip at ⌝ }
+    ensures { λ r. ⌜ Trials chip need at r ⌝ }
 {
     let x = at.x.0;
-    let n = board.width.0 - x;
+    let n = chip.width.0 - x;
     let mut heights = [0u8; MOST_COLUMNS];
     let mut columns = ByKind {
         clbs: Columns(0),
         rams: Columns(0),
         multipliers: Columns(0),
     };
-    let mut top = Rows(board.height.0 + 1);
+    let mut top = Rows(chip.height.0 + 1);
     for j in 0..n {
-        columns = one_more(columns, kinds[x + j]);
-        top = least_top(columns, need, board.block, at.y, top);
-        heights[j] = height_to(top, at.y, board.height);
+        columns = one_more(columns, chip.kinds[x + j]);
+        top = least_top(columns, need, chip.block, at.y, top);
+        heights[j] = height_to(top, at.y, chip.height);
     }
     heights
 }
@@ -120,11 +121,11 @@ fn listed(height: u8, before: u8) -> u8
 }
 
 // Lists the shapes of a leaf at a corner, in the slot of node t.
-pub fn leaf_slot(work: &mut [u8], board: Board, kinds: &[u8], need: Need, t: usize, at: Corner)
-    requires { ⌜ LeafRoom board t at (now kinds) (now work) ⌝ }
-    ensures { λ _. ⌜ SlotIs (board .width .0) (board .height .0) t at (leafBytes board (now (kinds .entry)) need at) (now (work .entry)) (now (work .exit)) ⌝ }
+pub fn leaf_slot(work: &mut [u8], board: Board, chip: Chip, need: Need, t: usize, at: Corner)
+    requires { ⌜ LeafRoom board chip t at (now work) ⌝ }
+    ensures { λ _. ⌜ SlotListed board chip need t at (now (work .entry)) (now (work .exit)) ⌝ }
 {
-    let heights = trial_heights(board, kinds, need, at);
+    let heights = trial_heights(chip, need, at);
     let start = slots::slot_start(board, t, at);
     let mut before = 0;
     for j in 0..board.width.0 {
@@ -135,21 +136,21 @@ pub fn leaf_slot(work: &mut [u8], board: Board, kinds: &[u8], need: Need, t: usi
 }
 
 // Lists the corners of a leaf in one row.
-fn leaf_row(work: &mut [u8], board: Board, kinds: &[u8], need: Need, t: usize, y: Rows)
-    requires { ⌜ NodeRoom board t (now kinds) (now work) × (y .0 < board .height .0) ⌝ }
-    ensures { λ _. ⌜ PartIs (board .width .0) (board .height .0) t (leafBytes board (now (kinds .entry)) need) (inRow (y .0) (board .width .0)) (now (work .entry)) (now (work .exit)) ⌝ }
+fn leaf_row(work: &mut [u8], board: Board, chip: Chip, need: Need, t: usize, y: Rows)
+    requires { ⌜ NodeRoom board chip t (now work) × (y .0 < board .height .0) ⌝ }
+    ensures { λ _. ⌜ RowListed board chip need t (y .0) (now (work .entry)) (now (work .exit)) ⌝ }
 {
     for x in 0..board.width.0 {
-        leaf_slot(work, board, kinds, need, t, Corner { x: Columns(x), y });
+        leaf_slot(work, board, chip, need, t, Corner { x: Columns(x), y });
     }
 }
 
 // Lists all corners of a leaf.
-pub fn leaf_node(work: &mut [u8], board: Board, kinds: &[u8], need: Need, t: usize)
-    requires { ⌜ NodeRoom board t (now kinds) (now work) ⌝ }
-    ensures { λ _. ⌜ NodeIs (board .width .0) (board .height .0) t (leafBytes board (now (kinds .entry)) need) (now (work .entry)) (now (work .exit)) ⌝ }
+pub fn leaf_node(work: &mut [u8], board: Board, chip: Chip, need: Need, t: usize)
+    requires { ⌜ NodeRoom board chip t (now work) ⌝ }
+    ensures { λ _. ⌜ NodeListed board chip need t (now (work .entry)) (now (work .exit)) ⌝ }
 {
     for y in 0..board.height.0 {
-        leaf_row(work, board, kinds, need, t, Rows(y));
+        leaf_row(work, board, chip, need, t, Rows(y));
     }
 }

@@ -3,4 +3,4 @@ use Rattle.rules.specs.declared.Design.{Design}
 use Rattle.slots.specs.declared.Board.{Board}
 
 abbrev pub boardOf : Design → Board
-boardOf d = record { width = d .width; height = d .height; block = d .block }
+boardOf d = record { width = d .chip .width; height = d .chip .height }

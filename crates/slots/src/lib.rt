@@ -8,25 +8,19 @@ ghost use Prim.Native.Nat.{_≤_, _<_};
 ghost use Rattle.rules.specs.Slot.{slotStart, CornerOn};
 ghost use Rattle.slots.specs.Size.{boardOf};
 
-// The chip's size and its blocks' height; its columns' kinds are lent beside it.
+// The chip's size, which says where slots stand.
 pub struct Board {
     pub width: Columns,
     pub height: Rows,
-    pub block: Rows,
 }
 
 // The size of a design's chip.
 pub fn board_of(design: Design) -> Board
     ensures { λ r. ⌜ r ≡ boardOf design ⌝ }
 {
-    let width = design.width;
-    let height = design.height;
-    let block = design.block;
-    Board {
-        width,
-        height,
-        block,
-    }
+    let width = design.chip.width;
+    let height = design.chip.height;
+    Board { width, height }
 }
 
 // Where the slot of node t at a corner starts.

@@ -3,23 +3,22 @@
 use mathlib.Core.Path.{_≡_, _∙_}
 use Prim.Native.Nat.{_-_, _≤_}
 use native.Mathlib.Omega.{arith}
-use Rattle.rules.specs.Design.{kindAt}
-use Rattle.rules.proofs.Limits.{limits}
+use Rattle.rules.proofs.Limits.{chip-limits}
 use Rattle.holding.proofs.Holding.{heldIn, none-held, one-more-held, few-held, all-held}
 use Rattle.holding.proofs.held.Statement.{statement}
 use Rattle.holding.proofs.held.Tie as tie
 
 abbrev Inv-loop : tie.InvT-loop
-Inv-loop d blocks column left right held₀ x₀ held x = (left ≤ x) × (x ≤ right) × (held ≡ heldIn (kindAt d) column left (x - left))
+Inv-loop chip blocks column left right held₀ x₀ held x = (left ≤ x) × (x ≤ right) × (held ≡ heldIn chip column left (x - left))
 
 abbrev μ-loop : tie.MeasureT-loop
-μ-loop d blocks column left right held₀ x₀ held x = right - x
+μ-loop chip blocks column left right held₀ x₀ held x = right - x
 
 add-t11 : tie.Need-add-t11 Inv-loop μ-loop
 add-t11 c = omega arith
 
 blocks-between-requires : tie.Need-blocks-between-requires Inv-loop μ-loop
-blocks-between-requires c κs = omega (arith, limits _ (c .before .before .pre .0))
+blocks-between-requires c κs = omega (arith, chip-limits _ (c .before .before .pre .0))
 
 add-right : tie.Need-add-right Inv-loop μ-loop
 add-right c = omega arith
@@ -28,11 +27,11 @@ loop-holds : tie.Need-loop-holds Inv-loop μ-loop
 loop-holds c = (omega arith, omega arith, none-held _ _ _)
 
 element-copy-out-with-column : tie.Need-element-copy-out-with-column Inv-loop μ-loop
-element-copy-out-with-column c = omega (arith, limits _ (c .before .before .before .before .before .before .pre .0))
+element-copy-out-with-column c = omega (arith, chip-limits _ (c .before .before .before .before .before .before .pre .0))
 
 with-column-requires : tie.Need-with-column-requires Inv-loop μ-loop
 with-column-requires c κs =
-    let l = limits _ (c .before .before .before .before .before .before .before .pre .0) in
+    let l = chip-limits _ (c .before .before .before .before .before .before .before .pre .0) in
     few-held _ _ _ _ _ (omega arith) (omega arith) (c .before .before .loop .inv .2)
 
 add-x : tie.Need-add-x Inv-loop μ-loop

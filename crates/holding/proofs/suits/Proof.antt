@@ -2,7 +2,7 @@
 -- Assumes nothing.
 use native.Mathlib.Omega.{arith}
 use borrow.Author.Needs.{needs}
-use Rattle.rules.proofs.Limits.{limits}
+use Rattle.rules.proofs.Limits.{limits, lawful-chip}
 use Rattle.holding.proofs.suits.Statement.{statement}
 use Rattle.holding.proofs.suits.Tie as tie
 
@@ -13,7 +13,7 @@ element-copy-out-is-at-most : tie.Need-element-copy-out-is-at-most
 element-copy-out-is-at-most c = omega (arith, limits _ (c .pre .0))
 
 held-requires : tie.Need-held-requires
-held-requires c κs = search needs
+held-requires c κs = (lawful-chip _ (c .before .before .pre .0), search needs)
 
 is-at-most-requires : tie.Need-is-at-most-requires
 is-at-most-requires c κs = search needs
