@@ -1,5 +1,5 @@
--- One corner: its top sides start with none, none is below the corner, and past the chip there are none, so the kept bytes are the
--- slot. Assumes nothing.
+-- One corner: its top sides start with none, none is below the corner, and past the chip there are none, so the kept
+-- bytes are the slot. Assumes nothing.
 use mathlib.Core.Path.{_≡_, _∙_}
 use mathlib.Core.List.{List}
 use Prim.Native.Nat.{ℕ, suc, _+_, _-_, _*_, _≤_, _<_}
@@ -12,7 +12,7 @@ use Rattle.rules.specs.Slot.{slotStart}
 use Rattle.slots.specs.declared.Board.{Board}
 use Rattle.slots.specs.Written.{Filled, SlotIs}
 use Rattle.slots.proofs.Filling.{same-filled, slot-filled}
-use Rattle.cuts.specs.Cut.{rowSize, Roomy, lineSize, topsSize, OnBoard, TailsNone, boxTop, leastTop, keptByte, laidSlot, TopsAre}
+use Rattle.cuts.specs.Cut.{filledSize, Roomy, lineSize, topsSize, OnBoard, TailsNone, boxTop, leastTop, keptByte, laidSlot, TopsAre}
 use Rattle.cuts.proofs.Least.{least-found}
 use Rattle.cuts.proofs.Tops.{top-out}
 use Rattle.cuts.proofs.Filling.{slot-fits}
@@ -27,11 +27,13 @@ fresh-tops x H = record {
 pub fresh-line : (board : Board) → TailsNone board (replicate lineSize (board .height .0 + 1))
 fresh-line board = record {
   long = length-replicate lineSize (board .height .0 + 1);
-  at = λ p b h k m. let e : board .height .0 + 1 ≡ suc (board .height .0) = omega arith in getD-replicate lineSize (p * rowSize + b) (board .height .0 + 1) 0 (omega arith) ∙ e;
+  at =
+      λ p b h k m. let e : board .height .0 + 1 ≡ suc (board .height .0) = omega arith in getD-replicate lineSize (p * filledSize + b) (board .height .0 + 1) 0 (omega arith) ∙ e;
 }
 
 -- no box lies below its corner
-above : (d : Direction) (B : Board) (tops : ℕ → ℕ → ℕ) (c : Corner) (bytes : ℕ → ℕ) (n b : ℕ) → OnBoard B c → c .y .0 ≤ leastTop d B tops c bytes n b
+above : (d : Direction) (B : Board) (tops : ℕ → ℕ → ℕ) (c : Corner) (bytes : ℕ → ℕ) (n b : ℕ) → OnBoard B c
+    → c .y .0 ≤ leastTop d B tops c bytes n b
 unfolding leastTop
 above d B tops c bytes n b on = go (decLe (leastTop d B tops c bytes n b) (B .height .0))
   where
@@ -46,11 +48,13 @@ module _ (d : Direction) (B : Board) (tops : ℕ → ℕ → ℕ) (c : Corner) (
   pub tops-above : (b : ℕ) → c .x .0 ≤ b → b < topsSize → c .y .0 ≤ getD held b 0
   tops-above b h k = rw (z .at b h k) (above d B tops c bytes (B .width .0 - c .x .0) b on)
 
-  pub corner-cut : (t : ℕ) {work work' : List ℕ} {base : ℕ} → Roomy B t work → base ≡ slotStart (B .width .0) (B .height .0) t c
+  pub corner-cut : (t : ℕ) {work work' : List ℕ} {base : ℕ} → Roomy B t work
+      → base ≡ slotStart (B .width .0) (B .height .0) t c
       → Filled work base (B .width .0) (λ j. keptByte (c .y .0) (getD held (c .x .0 + j) 0) (getD held (c .x .0 + suc j) 0)) work'
       → SlotIs (B .width .0) (B .height .0) t c (laidSlot d B tops c bytes) work work'
   unfolding laidSlot
   corner-cut t {work} {work'} r e k =
       slot-filled (B .width .0) (B .height .0) t c (laidSlot d B tops c bytes) work work' (slot-fits r on)
       (same-filled (laidSlot d B tops c bytes) (rw e at k) (λ j h.
-      let x = on .column in let w = r .columns in rw (z .at (c .x .0 + j) (omega arith) (omega arith), z .at (c .x .0 + suc j) (omega arith) (omega arith))))
+      let x = on .column in let w = r .columns in
+      rw (z .at (c .x .0 + j) (omega arith) (omega arith), z .at (c .x .0 + suc j) (omega arith) (omega arith))))

@@ -1,5 +1,5 @@
--- The corners of a cut node one after the other, and its lines: what is written to its own slots leaves its children's as they are,
--- so each corner gets the slot that the bytes at the start ask for. Assumes nothing.
+-- The corners of a cut node one after the other, and its lines: what is written to its own slots leaves its children's
+-- as they are, so each corner gets the slot that the bytes at the start ask for. Assumes nothing.
 use mathlib.Core.Path.{_≡_, refl, sym, _∙_}
 use mathlib.Core.Logic.{_⊎_, inl, inr, ⊎-elim}
 use mathlib.Core.Bool.{Bool, So}
@@ -29,11 +29,13 @@ module _ {W H t : ℕ} {f : Corner → ℕ → ℕ} {done : Corner → Bool} {be
   pub node-kept : (t' : ℕ) → (t ≡ t' → ⊥) → Agree W H (slot W H after t') (slot W H before t')
   unfolding slot
   node-kept t' o = record {
-    at = λ c on j h. p .outside (slotStart W H t' c + j) (λ c' on' s k l e. o (slots-apart W H t t' k j c' c on' on l h e .0));
+    at =
+        λ c on j h. p .outside (slotStart W H t' c + j) (λ c' on' s k l e. o (slots-apart W H t t' k j c' c on' on l h e .0));
   }
 
   -- and so do this node's at other corners
-  corner-kept : (c : Corner) → CornerOn W H c → (So (done c) → ⊥) → (j : ℕ) → j < W → slot W H after t c j ≡ slot W H before t c j
+  corner-kept : (c : Corner) → CornerOn W H c → (So (done c) → ⊥) → (j : ℕ) → j < W
+      → slot W H after t c j ≡ slot W H before t c j
   unfolding slot
   corner-kept c on o j h = p .outside (slotStart W H t c + j) (λ c' on' s k l e.
       let (_, x, y, _) = slots-apart W H t t k j c' c on' on l h e in
@@ -42,7 +44,8 @@ module _ {W H t : ℕ} {f : Corner → ℕ → ℕ} {done : Corner → Bool} {be
 -- some corners more, written from the bytes as they then stood
 pub part-then : {W H t : ℕ} {f f' : Corner → ℕ → ℕ} {done done' : Corner → Bool} {before mid after : List ℕ} (all : Corner → Bool)
     → PartIs W H t f done before mid → PartIs W H t f' done' mid after
-    → ((c : Corner) → CornerOn W H c → So (all c) → So (done c) ⊎ So (done' c)) → ((c : Corner) → So (done c) → So (all c)) → ((c : Corner) → So (done' c) → So (all c))
+    → ((c : Corner) → CornerOn W H c → So (all c) → So (done c) ⊎ So (done' c))
+    → ((c : Corner) → So (done c) → So (all c)) → ((c : Corner) → So (done' c) → So (all c))
     → ((c : Corner) → CornerOn W H c → (j : ℕ) → j < W → f' c j ≡ f c j) → PartIs W H t f all before after
 part-then {W} {H} {t} {f} {f'} {done} {done'} {before} {mid} {after} all p q out in' in'' same = record {
   long = q .long ∙ p .long;
@@ -52,7 +55,8 @@ part-then {W} {H} {t} {f} {f'} {done} {done'} {before} {mid} {after} all p q out
 }
 
 -- a cut's slot hangs on its children's bytes alone
-pub paired-same : (d : Direction) (W H : ℕ) (work work' : List ℕ) (left right : ℕ) → Agree W H (slot W H work left) (slot W H work' left)
+pub paired-same : (d : Direction) (W H : ℕ) (work work' : List ℕ) (left right : ℕ)
+    → Agree W H (slot W H work left) (slot W H work' left)
     → Agree W H (slot W H work right) (slot W H work' right) → (c : Corner) → CornerOn W H c → (j : ℕ) → j < W
     → pairedSlot d W H work left right c j ≡ pairedSlot d W H work' left right c j
 unfolding pairedSlot
@@ -63,25 +67,25 @@ paired-same d W H work work' left right l r c on =
     (pairings-bytes W H d (slot W H work' left) (slot W H work' right) c)
 
 -- a corner is at its place on its line
-line-of : (d : Direction) (on p : ℕ) → lineOf d (cornerAt d on p) ≡ on
-line-of Vertical on p = refl
-line-of Horizontal on p = refl
+at-place : (d : Direction) (on p : ℕ) → (lineOf d (cornerAt d on p) ≡ on) × (placeOf d (cornerAt d on p) ≡ p)
+at-place Vertical on p = (refl, refl)
+at-place Horizontal on p = (refl, refl)
 
-place-of : (d : Direction) (on p : ℕ) → placeOf d (cornerAt d on p) ≡ p
-place-of Vertical on p = refl
-place-of Horizontal on p = refl
-
-same-place : (d : Direction) (on p : ℕ) (c : Corner) → lineOf d c ≡ on → placeOf d c ≡ p → SameCorner (cornerAt d on p) c
+same-place : (d : Direction) (on p : ℕ) (c : Corner) → lineOf d c ≡ on → placeOf d c ≡ p
+    → SameCorner (cornerAt d on p) c
 same-place Vertical on p c e h = record { column = sym h; row = sym e }
 same-place Horizontal on p c e h = record { column = sym e; row = sym h }
 
-on-line : (d : Direction) (W H : ℕ) (c : Corner) → CornerOn W H c → (lineOf d c < across d H W) × (placeOf d c < across d W H)
+on-line : (d : Direction) (W H : ℕ) (c : Corner) → CornerOn W H c
+    → (lineOf d c < across d H W) × (placeOf d c < across d W H)
 on-line Vertical W H c on = (on .row, on .column)
 on-line Horizontal W H c on = (on .column, on .row)
 
--- the slot that is laid at a corner of the line, from the bytes as they now stand, is the one that the bytes at the start ask for
+-- the slot that is laid at a corner of the line, from the bytes as they now stand, is the one that the bytes at the
+-- start ask for
 pub slot-laid : (d : Direction) (B : Board) (t left right on p : ℕ) (start work : List ℕ) {c : Corner} {after line : List ℕ} → LineFilled d B (slotsOn B start right) on (places d B) line
-    → c ≡ cornerAt d on p → OnBoard B c → Agree (B .width .0) (B .height .0) (slotsOn B work left) (slotsOn B start left)
+    → c ≡ cornerAt d on p → OnBoard B c
+    → Agree (B .width .0) (B .height .0) (slotsOn B work left) (slotsOn B start left)
     → SlotIs (B .width .0) (B .height .0) t c (laidSlot d B (heldTop line) c (slotsOn B work left c)) work after
     → SlotIs (B .width .0) (B .height .0) t c (pairedSlot d (B .width .0) (B .height .0) start left right c) work after
 unfolding pairedSlot laidSlot leastTop
@@ -91,14 +95,16 @@ slot-laid d B t left right on p start work {c} {after} {line} l e o a z = record
     n = B .width .0 - c .x .0
 
     l' : LineFilled d B (slotsOn B start right) (lineOf d c) (places d B) line
-    l' = let q : lineOf d c ≡ on = rw e (line-of d on p) in rw q l
+    l' = let q : lineOf d c ≡ on = rw e (at-place d on p .0) in rw q l
 
-    tops-are : (b : ℕ) → leastTop d B (heldTop line) c (slotsOn B work left c) n b ≡ leastTop d B (lineTop d B (slotsOn B start right) (lineOf d c)) c (slotsOn B start left c) n b
+    tops-are : (b : ℕ)
+        → leastTop d B (heldTop line) c (slotsOn B work left c) n b ≡ leastTop d B (lineTop d B (slotsOn B start right) (lineOf d c)) c (slotsOn B start left c) n b
     tops-are b =
         least-same _ _ _ n (λ i k. rw (a .at c o i (omega arith)))
         ∙ filled-tops d B (slotsOn B start right) c line l' (slotsOn B start left c) n b
 
-    is : (j : ℕ) → laidSlot d B (heldTop line) c (slotsOn B work left c) j ≡ pairedSlot d (B .width .0) (B .height .0) start left right c j
+    is : (j : ℕ)
+        → laidSlot d B (heldTop line) c (slotsOn B work left c) j ≡ pairedSlot d (B .width .0) (B .height .0) start left right c j
     is j =
         let r = o .row in
         rw (tops-are (c .x .0 + j), tops-are (c .x .0 + suc j)) (laid-paired d B (slotsOn B start left) (slotsOn B start right) c j (omega arith))
@@ -108,15 +114,17 @@ module _ (d : Direction) (W H t on : ℕ) (f : Corner → ℕ → ℕ) where
   pub no-place : (before : List ℕ) → PartIs W H t f (onLine d on 0) before before
   no-place before = record { long = refl; inside = λ c _ s. let h = simp test-iffs at s in absurd (omega arith); outside = λ i h. refl }
 
-  pub place-done : (p : ℕ) {before mid after : List ℕ} {c : Corner} → c ≡ cornerAt d on p → CornerOn W H c → PartIs W H t f (onLine d on p) before mid
+  pub place-done : (p : ℕ) {before mid after : List ℕ} {c : Corner} → c ≡ cornerAt d on p → CornerOn W H c
+      → PartIs W H t f (onLine d on p) before mid
       → SlotIs W H t c (f c) mid after → PartIs W H t f (onLine d on (p + 1)) before after
   place-done p {before} {mid} {after} {c} e o q z =
       one-done W H t f (onLine d on p) (onLine d on (p + 1)) before mid after c o
       (λ c' _ s. let (a, b) = simp test-iffs at s in out c' a b (ℕ-discrete (placeOf d c') p))
       (λ c' _ s. let (a, b) = simp test-iffs at s in simp test-iffs (a, omega arith))
-      (let a : lineOf d c ≡ on = rw e (line-of d on p) in let b : placeOf d c ≡ p = rw e (place-of d on p) in simp test-iffs (a, omega arith)) q z
+      (let a : (lineOf d c ≡ on) × (placeOf d c ≡ p) = rw e (at-place d on p) in simp test-iffs (a .0, omega arith)) q z
     where
-      out : (c' : Corner) → lineOf d c' ≡ on → placeOf d c' < p + 1 → Dec (placeOf d c' ≡ p) → So (onLine d on p c') ⊎ SameCorner c c'
+      out : (c' : Corner) → lineOf d c' ≡ on → placeOf d c' < p + 1 → Dec (placeOf d c' ≡ p)
+          → So (onLine d on p c') ⊎ SameCorner c c'
       out c' a b (yes h) = inr (rw e (same-place d on p c' a h))
       out c' a b (no h) = inl (simp test-iffs (a, omega arith))
 
@@ -129,15 +137,19 @@ module _ (d : Direction) (W H t left right : ℕ) (start : List ℕ) where
   no-line = record { long = refl; inside = λ c _ s. let h = simp test-iffs at s in absurd (omega arith); outside = λ i h. refl }
 
   pub line-done : (on : ℕ) {mid after : List ℕ} → left < t → right < t → PartIs W H t slots (beforeLine d on) start mid
-      → PartIs W H t (pairedSlot d W H mid left right) (onLine d on (across d W H)) mid after → PartIs W H t slots (beforeLine d (on + 1)) start after
+      → PartIs W H t (pairedSlot d W H mid left right) (onLine d on (across d W H)) mid after
+      → PartIs W H t slots (beforeLine d (on + 1)) start after
   line-done on {mid} {after} l r p q =
       part-then (beforeLine d (on + 1)) p q (λ c o s. let h = simp test-iffs at s in out c o h (ℕ-discrete (lineOf d c) on))
       (λ c s. let h = simp test-iffs at s in simp test-iffs (omega arith)) (λ c s. let (a, b) = simp test-iffs at s in simp test-iffs (omega arith))
       (paired-same d W H mid start left right (node-kept p left (λ e. omega arith)) (node-kept p right (λ e. omega arith)))
     where
-      out : (c : Corner) → CornerOn W H c → lineOf d c < on + 1 → Dec (lineOf d c ≡ on) → So (beforeLine d on c) ⊎ So (onLine d on (across d W H) c)
+      out : (c : Corner) → CornerOn W H c → lineOf d c < on + 1 → Dec (lineOf d c ≡ on)
+          → So (beforeLine d on c) ⊎ So (onLine d on (across d W H) c)
       out c o h (yes e) = inr (simp test-iffs (e, on-line d W H c o .1))
       out c o h (no e) = inl (simp test-iffs (omega arith))
 
-  pub lines-done : {after : List ℕ} → PartIs W H t slots (beforeLine d (across d H W)) start after → NodeIs W H t slots start after
-  lines-done {after} p = all-done W H t slots (beforeLine d (across d H W)) start after (λ c o. simp test-iffs (on-line d W H c o .0)) p
+  pub lines-done : {after : List ℕ} → PartIs W H t slots (beforeLine d (across d H W)) start after
+      → NodeIs W H t slots start after
+  lines-done {after} p =
+      all-done W H t slots (beforeLine d (across d H W)) start after (λ c o. simp test-iffs (on-line d W H c o .0)) p

@@ -1,32 +1,50 @@
-// All slots of a cut node, from its children's stored shapes. The corners go line by line, a row of them under a vertical cut and a
-// column under a horizontal one, so that the right child's corner beside a left shape is on the same line. Of each line the right
-// child's slots are filled once; each corner then lays filled slots over the least top sides of its boxes.
+// All slots of a cut node, from its children's stored shapes. The corners go line by line, a row of them under a
+// vertical cut and a column under a horizontal one, so that the right child's corner beside a left shape is on the same
+// line. Of each line the right child's slots are filled once; each corner then lays filled slots over the least top
+// sides of its boxes.
 use rules::Columns;
 use rules::Corner;
 use rules::Direction;
 use rules::MOST_COLUMNS;
+use rules::MOST_ROWS;
 use rules::Rows;
 use slots::Board;
 use slots::slot_start;
 ghost use mathlib.Core.Path.{_≡_};
-ghost use Prim.Native.Nat.{ℕ, suc, _+_, _-_, _*_, _≤_, _<_, min, max};
-ghost use lib.ListN.{length, getD};
-ghost use Rattle.rules.specs.Design.{mostColumns};
+ghost use Prim.Native.Nat.{_+_, _≤_, _<_, min, max};
+ghost use lib.ListN.{length};
 ghost use Rattle.rules.proofs.Test.{across};
-ghost use Rattle.slots.specs.Written.{Filled, SlotIs, PartIs, NodeIs};
-ghost use Rattle.cuts.specs.Cut.{Roomy, Cuttable, pairedSlot, chunk, rowSize, lineSize, topsSize, slotsOn, OnBoard, cornerAt, lines, places, lowered, leastOf, slotTop, bytesFrom, heldTop, TailsNone, LineFilled, boxTop, leastTop, keptByte, laidSlot, TopsAre, Pairable, laidTop, Laid, onLine};
+ghost use Rattle.cuts.specs.Cut.{chunk, filledSize, lineSize, topsSize};
+ghost use Rattle.cuts.specs.Cut.{Roomy, Cuttable, OnBoard, LineRoom, CornerRoom, Pairable, Layable, Keepable};
+ghost use Rattle.cuts.specs.Cut.{cornerAt, placeOf, lines, places, lowered, keptByte};
+ghost use Rattle.cuts.specs.Cut.{SlotFilled, CornerFilled, WholeLine, RunLaid, SlotLaid, BoxLaid, CornerLaid};
+ghost use Rattle.cuts.specs.Cut.{TailsNone, NoTops, SlotKept, CornerCut, LineCut, NodeCut};
+
+// A place along a line of corners, or how many places it has: columns under a vertical cut, rows under a horizontal
+// one.
+struct Place(usize);
+
+// A line of corners, or how many lines there are: rows under a vertical cut, columns under a horizontal one.
+struct Line(usize);
+
+// The most places that a line can have, in either direction.
+const MOST_PLACES: usize = if MOST_COLUMNS < MOST_ROWS {
+    MOST_ROWS
+} else {
+    MOST_COLUMNS
+};
 
 // How many top sides are laid at a time.
 const CHUNK: usize = 16;
 
 // A filled slot: a byte for each right side from 0 on, and what a last chunk runs over.
-const ROW: usize = MOST_COLUMNS + CHUNK;
+const FILLED_SIZE: usize = MOST_COLUMNS + CHUNK;
 
 // The filled slots of a line of corners.
-const LINE: usize = MOST_COLUMNS * ROW;
+const LINE_SIZE: usize = MOST_PLACES * FILLED_SIZE;
 
 // A top side for each right side, also where a slot's width runs past the chip, and what a last chunk runs over.
-const TOPS: usize = 2 * MOST_COLUMNS + CHUNK;
+const TOPS_SIZE: usize = 2 * MOST_COLUMNS + CHUNK;
 
 // The lower of two bytes.
 fn lower(a: u8, b: u8) -> u8
@@ -49,23 +67,59 @@ fn lowered_by(low: u8, height: u8) -> u8
     if height == 0 { low } else { lower(low, height) }
 }
 
-// Of two numbers the first under a vertical cut, the second under a horizontal one.
-fn across(direction: Direction, m: usize, n: usize) -> usize
-    ensures { λ r. ⌜ r ≡ across direction m n ⌝ }
+// How many places a line has.
+fn places(direction: Direction, board: Board) -> Place
+    ensures { λ r. ⌜ r .0 ≡ places direction board ⌝ }
 {
     match direction {
-        Direction::Vertical => m,
-        Direction::Horizontal => n,
+        Direction::Vertical => Place(board.width.0),
+        Direction::Horizontal => Place(board.height.0),
+    }
+}
+
+// How many lines there are.
+fn lines(direction: Direction, board: Board) -> Line
+    ensures { λ r. ⌜ r .0 ≡ lines direction board ⌝ }
+{
+    match direction {
+        Direction::Vertical => Line(board.height.0),
+        Direction::Horizontal => Line(board.width.0),
+    }
+}
+
+// The place of a corner on its line.
+fn place_of(direction: Direction, at: Corner) -> Place
+    ensures { λ r. ⌜ r .0 ≡ placeOf direction at ⌝ }
+{
+    match direction {
+        Direction::Vertical => Place(at.x.0),
+        Direction::Horizontal => Place(at.y.0),
     }
 }
 
 // The corner at a place on a line.
-fn corner_at(direction: Direction, on: usize, place: usize) -> Corner
-    ensures { λ r. ⌜ r ≡ cornerAt direction on place ⌝ }
+fn corner_at(direction: Direction, on: Line, place: Place) -> Corner
+    ensures { λ r. ⌜ r ≡ cornerAt direction (on .0) (place .0) ⌝ }
 {
-    Corner {
-        x: Columns(across(direction, place, on)),
-        y: Rows(across(direction, on, place)),
+    match direction {
+        Direction::Vertical => Corner {
+            x: Columns(place.0),
+            y: Rows(on.0),
+        },
+        Direction::Horizontal => Corner {
+            x: Columns(on.0),
+            y: Rows(place.0),
+        },
+    }
+}
+
+// The first right side of a box: `beside` where the right shape stands beside the left one, `above` where it is above.
+fn first_right(direction: Direction, beside: Columns, above: Columns) -> Columns
+    ensures { λ r. ⌜ r .0 ≡ across direction (beside .0) (above .0) ⌝ }
+{
+    match direction {
+        Direction::Vertical => beside,
+        Direction::Horizontal => above,
     }
 }
 
@@ -76,11 +130,11 @@ fn fill_slot(
     n: usize,
     y: u8,
     height: u8,
-    line: &mut [u8; LINE],
+    line: &mut [u8; LINE_SIZE],
     to: usize,
 )
     requires { ⌜ (from + n ≤ length (now work)) × (to + n ≤ lineSize) × (y ≤ height) × (height < 255) ⌝ }
-    ensures { λ _. ⌜ Filled (now (line .entry)) to n (λ j. slotTop height y (bytesFrom (now (work .entry)) from) (suc j)) (now (line .exit)) ⌝ }
+    ensures { λ _. ⌜ SlotFilled height y (now (work .entry)) from to n (now (line .entry)) (now (line .exit)) ⌝ }
 {
     let mut low = height - y + 1;
     for j in 0..n {
@@ -90,9 +144,16 @@ fn fill_slot(
 }
 
 // Fills the slot of a node at a corner, whose right sides start behind `to`.
-fn fill_corner(work: &[u8], board: Board, t: usize, at: Corner, line: &mut [u8; LINE], to: usize)
-    requires { ⌜ Roomy board t (now work) × OnBoard board at × (to + rowSize ≤ lineSize) ⌝ }
-    ensures { λ _. ⌜ Filled (now (line .entry)) (to + at .x .0 + 1) (board .width .0 - at .x .0) (λ j. slotTop (board .height .0) (at .y .0) (slotsOn board (now (work .entry)) t at) (suc j)) (now (line .exit)) ⌝ }
+fn fill_corner(
+    work: &[u8],
+    board: Board,
+    t: usize,
+    at: Corner,
+    line: &mut [u8; LINE_SIZE],
+    to: usize,
+)
+    requires { ⌜ Roomy board t (now work) × OnBoard board at × (to + filledSize ≤ lineSize) ⌝ }
+    ensures { λ _. ⌜ CornerFilled board (now (work .entry)) t at to (now (line .entry)) (now (line .exit)) ⌝ }
 {
     let from = slot_start(board, t, at);
     let x = at.x.0;
@@ -113,23 +174,23 @@ fn fill_line(
     board: Board,
     direction: Direction,
     t: usize,
-    on: usize,
-    line: &mut [u8; LINE],
+    on: Line,
+    line: &mut [u8; LINE_SIZE],
 )
-    requires { ⌜ Roomy board t (now work) × (on < lines direction board) × TailsNone board (now line) ⌝ }
-    ensures { λ _. ⌜ LineFilled direction board (slotsOn board (now (work .entry)) t) on (places direction board) (now (line .exit)) ⌝ }
+    requires { ⌜ Roomy board t (now work) × LineRoom direction board (on .0) (now line) ⌝ }
+    ensures { λ _. ⌜ WholeLine direction board (now (work .entry)) t (on .0) (now (line .exit)) ⌝ }
 {
-    let places = across(direction, board.width.0, board.height.0);
-    for place in 0..places {
-        let at = corner_at(direction, on, place);
-        fill_corner(work, board, t, at, line, place * ROW);
+    let places = places(direction, board);
+    for p in 0..places.0 {
+        let at = corner_at(direction, on, Place(p));
+        fill_corner(work, board, t, at, line, p * FILLED_SIZE);
     }
 }
 
 // Lays a chunk of a filled slot, none of it lower than `top`, over the top sides.
-fn lay_chunk(line: &[u8; LINE], from: usize, top: u8, tops: &mut [u8; TOPS], to: usize)
+fn lay_chunk(line: &[u8; LINE_SIZE], from: usize, top: u8, tops: &mut [u8; TOPS_SIZE], to: usize)
     requires { ⌜ (from + chunk ≤ lineSize) × (to + chunk ≤ topsSize) ⌝ }
-    ensures { λ _. ⌜ Filled (now (tops .entry)) to chunk (laidTop (now (tops .entry)) to top (now (line .entry)) from) (now (tops .exit)) ⌝ }
+    ensures { λ _. ⌜ RunLaid (now (line .entry)) from top (now (tops .entry)) to chunk (now (tops .exit)) ⌝ }
 {
     for k in 0..CHUNK {
         let box_top = higher(top, line[from + k]);
@@ -138,9 +199,16 @@ fn lay_chunk(line: &[u8; LINE], from: usize, top: u8, tops: &mut [u8; TOPS], to:
 }
 
 // Lays n bytes of a filled slot, none lower than `top`, over the top sides, chunk by chunk.
-fn lay_slot(line: &[u8; LINE], from: usize, top: u8, tops: &mut [u8; TOPS], to: usize, n: usize)
-    requires { ⌜ (from + n + chunk ≤ lineSize + 1) × (to + n ≤ mostColumns + 1) × (length (now tops) ≡ topsSize) ⌝ }
-    ensures { λ _. ⌜ Laid (now (tops .entry)) to n (laidTop (now (tops .entry)) to top (now (line .entry)) from) (now (tops .exit)) ⌝ }
+fn lay_slot(
+    line: &[u8; LINE_SIZE],
+    from: usize,
+    top: u8,
+    tops: &mut [u8; TOPS_SIZE],
+    to: usize,
+    n: usize,
+)
+    requires { ⌜ Layable from to n (now tops) ⌝ }
+    ensures { λ _. ⌜ SlotLaid (now (line .entry)) from top (now (tops .entry)) to n (now (tops .exit)) ⌝ }
 {
     let mut k: usize = 0;
     while k < n {
@@ -156,34 +224,35 @@ fn pair_shape(
     at: Corner,
     i: usize,
     height: u8,
-    line: &[u8; LINE],
-    tops: &mut [u8; TOPS],
+    line: &[u8; LINE_SIZE],
+    tops: &mut [u8; TOPS_SIZE],
 )
     requires { ⌜ Pairable board at (now line) (now tops) × (at .x .0 + i < board .width .0) ⌝ }
-    ensures { λ _. ⌜ TopsAre (at .x .0) (λ b. lowered (getD (now (tops .entry)) b 0) (boxTop direction board (heldTop (now (line .entry))) at i height b)) (now (tops .exit)) ⌝ }
+    ensures { λ _. ⌜ BoxLaid direction board (now (line .entry)) at i height (now (tops .entry)) (now (tops .exit)) ⌝ }
 {
     let h = height as usize;
     if h == 0 {
         return;
     }
-    let x = at.x.0;
-    let top = at.y.0 + h;
-    if board.height.0 < top {
+    let far = Corner {
+        x: Columns(at.x.0 + i + 1),
+        y: Rows(at.y.0 + h),
+    };
+    if board.height.0 < far.y.0 {
         return;
     }
-    let end = x + i + 1;
-    let place = across(direction, end, top);
-    if across(direction, board.width.0, board.height.0) <= place {
+    let place = place_of(direction, far);
+    if places(direction, board).0 <= place.0 {
         return;
     }
-    let first = across(direction, end + 1, end);
+    let first = first_right(direction, Columns(far.x.0 + 1), far.x);
     lay_slot(
         line,
-        place * ROW + first,
-        top as u8,
+        place.0 * FILLED_SIZE + first.0,
+        far.y.0 as u8,
         tops,
-        first,
-        board.width.0 + 1 - first,
+        first.0,
+        board.width.0 + 1 - first.0,
     );
 }
 
@@ -194,11 +263,11 @@ fn pair_corner(
     direction: Direction,
     left: usize,
     at: Corner,
-    line: &[u8; LINE],
-    tops: &mut [u8; TOPS],
+    line: &[u8; LINE_SIZE],
+    tops: &mut [u8; TOPS_SIZE],
 )
-    requires { ⌜ Roomy board left (now work) × OnBoard board at × TailsNone board (now line) × TopsAre (at .x .0) (λ _. suc (board .height .0)) (now tops) ⌝ }
-    ensures { λ _. ⌜ TopsAre (at .x .0) (leastTop direction board (heldTop (now (line .entry))) at (slotsOn board (now (work .entry)) left at) (board .width .0 - at .x .0)) (now (tops .exit)) ⌝ }
+    requires { ⌜ CornerRoom board left at (now work) (now line) × NoTops board at (now tops) ⌝ }
+    ensures { λ _. ⌜ CornerLaid direction board (now (line .entry)) (now (work .entry)) left at (now (tops .exit)) ⌝ }
 {
     let from = slot_start(board, left, at);
     let n = board.width.0 - at.x.0;
@@ -217,9 +286,9 @@ fn kept(before: u8, top: u8, y: u8) -> u8
 }
 
 // Writes the slot at a corner from its top sides.
-fn keep_slot(work: &mut [u8], base: usize, n: usize, at: Corner, tops: &[u8; TOPS])
-    requires { ⌜ (base + n ≤ length (now work)) × (at .x .0 + n < topsSize) × (at .y .0 < 256) × ((b : ℕ) → at .x .0 ≤ b → b < topsSize → at .y .0 ≤ getD (now tops) b 0) ⌝ }
-    ensures { λ _. ⌜ Filled (now (work .entry)) base n (λ j. keptByte (at .y .0) (getD (now (tops .entry)) (at .x .0 + j) 0) (getD (now (tops .entry)) (at .x .0 + suc j) 0)) (now (work .exit)) ⌝ }
+fn keep_slot(work: &mut [u8], base: usize, n: usize, at: Corner, tops: &[u8; TOPS_SIZE])
+    requires { ⌜ Keepable base n at (now work) (now tops) ⌝ }
+    ensures { λ _. ⌜ SlotKept base n at (now (tops .entry)) (now (work .entry)) (now (work .exit)) ⌝ }
 {
     let x = at.x.0;
     let y = at.y.0 as u8;
@@ -236,13 +305,13 @@ fn cut_corner(
     t: usize,
     left: usize,
     at: Corner,
-    line: &[u8; LINE],
+    line: &[u8; LINE_SIZE],
 )
-    requires { ⌜ Roomy board t (now work) × (left < t) × OnBoard board at × TailsNone board (now line) ⌝ }
-    ensures { λ _. ⌜ SlotIs (board .width .0) (board .height .0) t at (laidSlot direction board (heldTop (now (line .entry))) at (slotsOn board (now (work .entry)) left at)) (now (work .entry)) (now (work .exit)) ⌝ }
+    requires { ⌜ CornerRoom board t at (now work) (now line) × (left < t) ⌝ }
+    ensures { λ _. ⌜ CornerCut direction board (now (line .entry)) t left at (now (work .entry)) (now (work .exit)) ⌝ }
 {
     let none = (board.height.0 + 1) as u8;
-    let mut tops = [none; TOPS];
+    let mut tops = [none; TOPS_SIZE];
     pair_corner(work, board, direction, left, at, line, &mut tops);
     let base = slot_start(board, t, at);
     keep_slot(work, base, board.width.0, at, &tops);
@@ -256,16 +325,17 @@ fn cut_line(
     t: usize,
     left: usize,
     right: usize,
-    on: usize,
-    line: &mut [u8; LINE],
+    on: Line,
+    line: &mut [u8; LINE_SIZE],
 )
-    requires { ⌜ Cuttable board t left right (now work) × (on < lines direction board) × TailsNone board (now line) ⌝ }
-    ensures { λ _. ⌜ PartIs (board .width .0) (board .height .0) t (pairedSlot direction (board .width .0) (board .height .0) (now (work .entry)) left right) (onLine direction on (places direction board)) (now (work .entry)) (now (work .exit)) × TailsNone board (now (line .exit)) ⌝ }
+    requires { ⌜ Cuttable board t left right (now work) × LineRoom direction board (on .0) (now line) ⌝ }
+    ensures { λ _. ⌜ LineCut direction board t left right (on .0) (now (work .entry)) (now (work .exit)) ⌝ }
+    ensures { λ _. ⌜ TailsNone board (now (line .exit)) ⌝ }
 {
     fill_line(work, board, direction, right, on, line);
-    let places = across(direction, board.width.0, board.height.0);
-    for place in 0..places {
-        let at = corner_at(direction, on, place);
+    let places = places(direction, board);
+    for p in 0..places.0 {
+        let at = corner_at(direction, on, Place(p));
         cut_corner(work, board, direction, t, left, at, line);
     }
 }
@@ -280,12 +350,12 @@ pub fn cut_node(
     right: usize,
 )
     requires { ⌜ Cuttable board t left right (now work) ⌝ }
-    ensures { λ _. ⌜ NodeIs (board .width .0) (board .height .0) t (pairedSlot direction (board .width .0) (board .height .0) (now (work .entry)) left right) (now (work .entry)) (now (work .exit)) ⌝ }
+    ensures { λ _. ⌜ NodeCut direction board t left right (now (work .entry)) (now (work .exit)) ⌝ }
 {
     let none = (board.height.0 + 1) as u8;
-    let mut line = [none; LINE];
-    let lines = across(direction, board.height.0, board.width.0);
-    for on in 0..lines {
-        cut_line(work, board, direction, t, left, right, on, &mut line);
+    let mut line = [none; LINE_SIZE];
+    let lines = lines(direction, board);
+    for n in 0..lines.0 {
+        cut_line(work, board, direction, t, left, right, Line(n), &mut line);
     }
 }

@@ -1,16 +1,19 @@
--- `cuts::corner_at` meets its contract: each of its two numbers is the one that `across` picks. Assumes nothing.
+-- `cuts::corner_at` meets its contract: in each direction the definition names the same two numbers. Assumes nothing.
 use borrow.Author.Needs.{needs}
 use Rattle.cuts.proofs.corner_at.Statement.{statement}
 use Rattle.cuts.proofs.corner_at.Tie as tie
 
-across-requires : tie.Need-across-requires
-across-requires c κs = search needs
+enum-told : tie.Need-enum-told
+enum-told c = search needs
 
-across-requires-2 : tie.Need-across-requires-2
-across-requires-2 c κs = search needs
+enum-told-2 : tie.Need-enum-told-2
+enum-told-2 c = search needs
 
 returns : tie.Need-returns
-returns c = λ i. record { x = record { 0 = c .before .across .ensures i }; y = record { 0 = c .across2 .ensures i } }
+returns c = rw (c .enum-told .given .1)
+
+returns-2 : tie.Need-returns-2
+returns-2 c = rw (c .enum-told2 .given .1)
 
 pub corner-at-spec : {M : Type 1} → statement M
-corner-at-spec = tie.close (tie.spec across-requires across-requires-2 returns)
+corner-at-spec = tie.close (tie.spec enum-told enum-told-2 returns returns-2)

@@ -1,5 +1,5 @@
--- `cuts::cut_corner` meets its contract: the top sides start with none, all left shapes are paired, and what is kept of them is the
--- slot. Assumes nothing.
+-- `cuts::cut_corner` meets its contract: the top sides start with none, all left shapes are paired, and what is kept of
+-- them is the slot. Assumes nothing.
 use native.Mathlib.Omega.{arith}
 use Rattle.cuts.specs.Cut.{slotsOn, heldTop}
 use Rattle.cuts.proofs.Filling.{slot-fits, roomy-child}
@@ -15,26 +15,33 @@ cast-none : tie.Need-cast-none
 cast-none c = search needs
 
 pair-corner-requires : tie.Need-pair-corner-requires
-pair-corner-requires c κs = let a = c .before .before .before .before .args in let p = c .before .before .before .before .pre in (roomy-child (a .left) (p .0) (p .1), p .2, p .3, fresh-tops (a .at .x .0) (a .board .height .0))
+pair-corner-requires c κs =
+    let s = c .before .before .before .before in let a = s .args in let p = s .pre .0 in
+    (record { room = roomy-child (a .left) (p .room) (s .pre .1); corner = p .corner; tails = p .tails }, fresh-tops (a .at .x .0) (a .board .height .0))
 
 slot-start-requires : tie.Need-slot-start-requires
 slot-start-requires c κs = search needs
 
 keep-slot-requires : tie.Need-keep-slot-requires
-keep-slot-requires c κs = let a = c .before .before .before .before .before .before .before .before .args in let p = c .before .before .before .before .before .before .before .before .pre in (
-  omega (arith, slot-fits (p .0) (p .2), c .before .before .slot-start .ensures .0),
-  omega (arith, p .0 .columns, p .2 .column),
-  omega (arith, p .0 .rows, p .2 .row),
-  tops-above (a .direction) (a .board) (heldTop (a .line .now)) (a .at) (slotsOn (a .board) (a .work .now) (a .left) (a .at)) (p .2) (c .before .before .before .pair-corner .ensures),
-)
+keep-slot-requires c κs =
+    let s = c .before .before .before .before .before .before .before .before in let a = s .args in let p = s .pre .0 in
+    record {
+      bytes = omega (arith, slot-fits (p .room) (p .corner), c .before .before .slot-start .ensures .0);
+      sides = omega (arith, p .room .columns, p .corner .column);
+      row = omega (arith, p .room .rows, p .corner .row);
+      above =
+          tops-above (a .direction) (a .board) (heldTop (a .line .now)) (a .at) (slotsOn (a .board) (a .work .now) (a .left) (a .at)) (p .corner) (c .before .before .before .pair-corner .ensures);
+    }
 
 same-length : tie.Need-same-length
 same-length c = search needs
 
 returns : tie.Need-returns
-returns c = let a = c .before .before .before .before .before .before .before .before .before .before .before .args in let p = c .before .before .before .before .before .before .before .before .before .before .before .pre in
-    corner-cut (a .direction) (a .board) (heldTop (a .line .now)) (a .at) (slotsOn (a .board) (a .work .now) (a .left) (a .at)) (p .2) (c .before .before .before .before .before .before .pair-corner .ensures)
-    (a .t) (p .0) (c .before .before .before .before .before .slot-start .ensures .0) (c .before .before .keep-slot .ensures)
+returns c =
+    let k = c .before .before .before .before .before in let s = k .before .before .before .before .before .before in
+    let a = s .args in let p = s .pre .0 in
+    corner-cut (a .direction) (a .board) (heldTop (a .line .now)) (a .at) (slotsOn (a .board) (a .work .now) (a .left) (a .at)) (p .corner) (k .before .pair-corner .ensures)
+    (a .t) (p .room) (k .slot-start .ensures .0) (c .before .before .keep-slot .ensures)
 
 pub cut-corner-spec : {M : Type 1} → statement M
 cut-corner-spec =

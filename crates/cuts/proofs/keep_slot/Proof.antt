@@ -38,7 +38,8 @@ element-copy-out-kept-2 : tie.Need-element-copy-out-kept-2 Inv-loop μ-loop
 element-copy-out-kept-2 c = search needs
 
 kept-requires : tie.Need-kept-requires Inv-loop μ-loop
-kept-requires c κs = c .before .before .before .before .before .before .pre .3 (c .before .before .before .before .before .before .args .at .x .0 + c .before .before .before .loop .j + 1) (omega arith) (omega arith)
+kept-requires c κs =
+    let s = c .before .before .before .before .before .before in s .pre .above (s .args .at .x .0 + c .before .before .before .loop .j + 1) (omega arith) (omega arith)
 
 add-work : tie.Need-add-work Inv-loop μ-loop
 add-work c = search needs

@@ -1,5 +1,5 @@
--- `cuts::pair_corner` meets its contract. The loop's invariant: the top sides are the least of the boxes of so many left shapes.
--- Assumes nothing.
+-- `cuts::pair_corner` meets its contract. The loop's invariant: the top sides are the least of the boxes of so many
+-- left shapes. Assumes nothing.
 use Prim.Native.Nat.{_≤_, _-_}
 use mathlib.Core.Path.{_≡_, refl}
 use native.Mathlib.Omega.{arith}
@@ -12,7 +12,8 @@ use Rattle.cuts.proofs.pair_corner.Statement.{statement}
 use Rattle.cuts.proofs.pair_corner.Tie as tie
 
 abbrev Inv-loop : tie.InvT-loop
-Inv-loop work board direction left at line tops₀ from n i₀ tops i = (i ≤ n) × (n ≡ board .width .0 - at .x .0) × (from ≡ slotStart (board .width .0) (board .height .0) left at)
+Inv-loop work board direction left at line tops₀ from n i₀ tops i =
+    (i ≤ n) × (n ≡ board .width .0 - at .x .0) × (from ≡ slotStart (board .width .0) (board .height .0) left at)
     × TopsAre (at .x .0) (leastTop direction board (heldTop line) at (slotsOn board work left at) i) tops
 
 abbrev μ-loop : tie.MeasureT-loop
@@ -26,17 +27,22 @@ sub-n c = search needs
 
 loop-holds : tie.Need-loop-holds Inv-loop μ-loop
 loop-holds c = let a = c .before .before .before .before .args in
-    (search needs, refl, c .before .before .slot-start .ensures .0, shapes-none (a .direction) (a .board) (a .work .now) (a .line .now) (a .left) (a .at) (c .before .before .before .before .pre .3))
+    (search needs, refl, c .before .before .slot-start .ensures .0, shapes-none (a .direction) (a .board) (a .work .now) (a .line .now) (a .left) (a .at) (c .before .before .before .before .pre .1))
 
 add-height : tie.Need-add-height Inv-loop μ-loop
 add-height c = search needs
 
 shared-slice-read-height : tie.Need-shared-slice-read-height Inv-loop μ-loop
-shared-slice-read-height c = let p = c .before .before .before .before .before .before .before .pre in let l = c .before .before .loop in omega (arith, slot-fits (p .0) (p .1), l .inv .1, l .inv .2)
+shared-slice-read-height c =
+    let p = c .before .before .before .before .before .before .before .pre in let l = c .before .before .loop in
+    omega (arith, slot-fits (p .0 .room) (p .0 .corner), l .inv .1, l .inv .2)
 
 pair-shape-requires : tie.Need-pair-shape-requires Inv-loop μ-loop
-pair-shape-requires c κs = let a = c .before .before .before .before .before .before .before .before .args in let p = c .before .before .before .before .before .before .before .before .pre in let l = c .before .before .before .loop in
-    (can-pair (a .direction) (a .board) (a .work .now) (a .line .now) (a .left) (a .at) (l .i) (p .0) (p .1) (p .2) (l .inv .3), omega (arith, l .inv .1))
+pair-shape-requires c κs =
+    let a = c .before .before .before .before .before .before .before .before .args in
+    let p = c .before .before .before .before .before .before .before .before .pre in
+    let l = c .before .before .before .loop in
+    (can-pair (a .direction) (a .board) (a .work .now) (a .line .now) (a .left) (a .at) (l .i) (p .0 .room) (p .0 .corner) (p .0 .tails) (l .inv .3), omega (arith, l .inv .1))
 
 add-i : tie.Need-add-i Inv-loop μ-loop
 add-i c = search needs
@@ -45,11 +51,15 @@ loop-less : tie.Need-loop-less Inv-loop μ-loop
 loop-less c = search needs
 
 loop-again : tie.Need-loop-again Inv-loop μ-loop
-loop-again c = let a = c .before .before .before .before .before .before .before .before .before .args in let l = c .before .before .before .before .loop in
+loop-again c =
+    let a = c .before .before .before .before .before .before .before .before .before .args in
+    let l = c .before .before .before .before .loop in
     (omega arith, l .inv .1, l .inv .2, shapes-next (a .direction) (a .board) (a .work .now) (a .line .now) (a .left) (a .at) (l .i) (l .inv .2) (l .inv .3) (c .pair-shape .ensures))
 
 returns : tie.Need-returns Inv-loop μ-loop
-returns c = let a = c .before .before .before .before .before .before .args in let l = c .before .loop in let e : l .i ≡ a .board .width .0 - a .at .x .0 = omega (arith, l .inv .1) in rw e at (l .inv .3)
+returns c =
+    let a = c .before .before .before .before .before .before .args in let l = c .before .loop in
+    let e : l .i ≡ a .board .width .0 - a .at .x .0 = omega (arith, l .inv .1) in rw e at (l .inv .3)
 
 pub pair-corner-spec : {M : Type 1} → statement M
 pair-corner-spec =
