@@ -1,3 +1,2 @@
--- What the proofs share, and what a caller's proof cites.
-mod Lengths
+-- What a caller's proof cites.
 pub mod Answers

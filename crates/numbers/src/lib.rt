@@ -4,9 +4,9 @@ use rules::Refusal;
 ghost use mathlib.Core.Path.{_≡_};
 ghost use Prim.Native.Nat.{_+_, _≤_, _<_};
 ghost use lib.ListN.{length};
-ghost use lib.Seq.{sets};
 ghost use Rattle.rules.specs.Design.{mostNumber};
 ghost use Rattle.rules.specs.Bytes.{numberBytes, numberAt, secondByte, thirdByte};
+ghost use Rattle.putting.specs.Put.{Put};
 ghost use Rattle.numbers.specs.Replies.{replyOf};
 
 // The answer to taking a number: its value and the position after it, or the refusal, kind and position together.
@@ -119,7 +119,7 @@ pub fn number_len(v: usize) -> usize
 // Puts `v` at `at`, low group first, and gives the position after it.
 pub fn put_number(buf: &mut [u8], at: usize, v: usize) -> usize
     requires { ⌜ (v ≤ mostNumber) × (at + length (numberBytes v) ≤ length (now buf)) ⌝ }
-    ensures { λ r. ⌜ (r ≡ at + length (numberBytes v)) × (now (buf .exit) ≡ sets (now (buf .entry)) at (numberBytes v)) ⌝ }
+    ensures { λ r. ⌜ Put (now (buf .entry)) at (numberBytes v) r (now (buf .exit)) ⌝ }
 {
     if v < 128 {
         buf[at] = v as u8;

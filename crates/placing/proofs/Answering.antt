@@ -15,7 +15,7 @@ use Rattle.rules.specs.Chip.{corner}
 use Rattle.rules.specs.Placement.{Placement}
 use Rattle.rules.specs.Slot.{Empty}
 use Rattle.rules.specs.Choice.{Chosen, rowsOut}
-use Rattle.rules.specs.Design.{mostColumns, mostRows, nodes, root, slotsOf, rootSlot, SuitsOf, GoesDown}
+use Rattle.rules.specs.Design.{mostColumns, mostRows, nodes, root, slotsOf, rootSlot, SuitsOf, GoesDown, widthOf, heightOf}
 use Rattle.rules.specs.Check.{isSuited}
 use Rattle.rules.specs.Service.{Enough}
 use Rattle.rules.proofs.Test.{laid}
@@ -36,36 +36,36 @@ use Rattle.placing.specs.Place.{PlacesOn, WentDown, PlacedFrom}
 
 module _ {d : Design} {work rows : List ℕ} (room : Enough d work rows) where
   -- a place on the design's chip is on the largest one
-  pub on-largest : {places : List Rectangle} → PlacesOn (d .width .0) (d .height .0) (d .modules) places → PlacesOn mostColumns mostRows (d .modules) places
+  pub on-largest : {places : List Rectangle} → PlacesOn (widthOf d) (heightOf d) (d .modules) places → PlacesOn mostColumns mostRows (d .modules) places
   on-largest on = record { on = λ k h. let l = limits d (room .lawful) in let o = on .on k h in omega arith }
 
   -- the shape found, on the design's own board
   module _ {s : Shape} {board : Board} (e : board ≡ boardOf d)
       (q : s ≡ chosenShape (board .width .0) (slotsIn board work (nodes d - 1) (corner 0 0))) where
-    pub none-chosen : s .w .0 ≡ 0 → Empty (d .width .0) (rootSlot d (slotsOf d work))
-    none-chosen z = chosen-none (d .width .0) (rootSlot d (slotsOf d work)) s (rw e at q) z
+    pub none-chosen : s .w .0 ≡ 0 → Empty (widthOf d) (rootSlot d (slotsOf d work))
+    none-chosen z = chosen-none (widthOf d) (rootSlot d (slotsOf d work)) s (rw e at q) z
 
-    pub this-chosen : (s .w .0 ≡ 0 → ⊥) → Chosen (d .width .0) (rootSlot d (slotsOf d work)) s
-    this-chosen n = chosen-this (d .width .0) (rootSlot d (slotsOf d work)) s (rw e at q) n
+    pub this-chosen : (s .w .0 ≡ 0 → ⊥) → Chosen (widthOf d) (rootSlot d (slotsOf d work)) s
+    this-chosen n = chosen-this (widthOf d) (rootSlot d (slotsOf d work)) s (rw e at q) n
 
-  pub answer-none : Empty (d .width .0) (rootSlot d (slotsOf d work)) → PlacedFrom d work rows (Refused NoPlacement) rows
+  pub answer-none : Empty (widthOf d) (rootSlot d (slotsOf d work)) → PlacedFrom d work rows (Refused NoPlacement) rows
   answer-none z = record {
     none = λ _. (refl, refl);
     lost = λ o ch _. absurd (z o (ch .stored));
     done = λ o p ch _. absurd (z o (ch .stored));
   }
 
-  module _ {s : Shape} (ch : Chosen (d .width .0) (rootSlot d (slotsOf d work)) s)
+  module _ {s : Shape} (ch : Chosen (widthOf d) (rootSlot d (slotsOf d work)) s)
       {r : Layout} (w : WentDown d (slotsOf d work) s r) where
-    only : (o : Shape) → Chosen (d .width .0) (rootSlot d (slotsOf d work)) o → o ≡ s
-    only o x = chosen-once (d .width .0) (rootSlot d (slotsOf d work)) o s x ch
+    only : (o : Shape) → Chosen (widthOf d) (rootSlot d (slotsOf d work)) o → o ≡ s
+    only o x = chosen-once (widthOf d) (rootSlot d (slotsOf d work)) o s x ch
 
     -- whoever goes down, the layout did, and to the same rectangles
-    went : (o : Shape) (p : Placement) → Chosen (d .width .0) (rootSlot d (slotsOf d work)) o → GoesDown d (slotsOf d work) o p
+    went : (o : Shape) (p : Placement) → Chosen (widthOf d) (rootSlot d (slotsOf d work)) o → GoesDown d (slotsOf d work) o p
         → So (r .ok) × ((k : ℕ) → k < d .modules → p k ≡ placeOf (r .places) k)
     went o p x down =
         let T = lawful-tree d (room .lawful) in
-        let (g, f) = down-laid (d .width .0) (d .height .0) (SuitsOf d) (slotsOf d work) (isSuited d) (suited-decides d) (root d) (T .once)
+        let (g, f) = down-laid (widthOf d) (heightOf d) (SuitsOf d) (slotsOf d work) (isSuited d) (suited-decides d) (root d) (T .once)
         (corner 0 0) s p (rw (only o x) at down) in
         let ok : So (r .ok) = w .ok ∙ g in (ok, λ k h. f k (T .modules k .1 h) ∙ sym (w .places ok k h))
 
@@ -77,9 +77,9 @@ module _ {d : Design} {work rows : List ℕ} (room : Enough d work rows) where
     }
 
     -- where the layout did, so does one
-    laid-went : r .ok ≡ true → GoesDown d (slotsOf d work) s (laid (d .width .0) (d .height .0) (slotsOf d work) (root d) (corner 0 0) s)
+    laid-went : r .ok ≡ true → GoesDown d (slotsOf d work) s (laid (widthOf d) (heightOf d) (slotsOf d work) (root d) (corner 0 0) s)
     laid-went e =
-        laid-down (d .width .0) (d .height .0) (SuitsOf d) (slotsOf d work) (isSuited d) (suited-decides d) (root d)
+        laid-down (widthOf d) (heightOf d) (SuitsOf d) (slotsOf d work) (isSuited d) (suited-decides d) (root d)
         (lawful-tree d (room .lawful) .once) (corner 0 0) s (sym (w .ok) ∙ e)
 
     pub answer-done : {rows' : List ℕ} → r .ok ≡ true → rows' ≡ rowsOut (d .modules) (placeOf (r .places)) ++ drop (4 * d .modules) rows

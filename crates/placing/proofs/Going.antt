@@ -9,7 +9,7 @@ use lib.ListN.{length}
 use Rattle.rules.specs.declared.Shape.{Shape}
 use Rattle.rules.specs.declared.Design.{Design}
 use Rattle.rules.specs.Search.{all}
-use Rattle.rules.specs.Design.{nodes, LawfulDesign, slotsOf}
+use Rattle.rules.specs.Design.{nodes, LawfulDesign, slotsOf, widthOf, heightOf}
 use Rattle.rules.specs.Check.{isSuited}
 use Rattle.rules.specs.Service.{workOf}
 use Rattle.rules.proofs.Searching.{absurd-so}
@@ -29,7 +29,7 @@ use Rattle.placing.specs.Place.{PlacesOn, FromStairs, WentDown}
 pub ready : (d : Design) {work : List ℕ} {board : Board} → LawfulDesign d → workOf d ≤ length work → board ≡ boardOf d → Ready board (nodes d) work
 ready d lawful h e =
     let l = limits d lawful in
-    rw e (record { columns = (l .wide, l .width); rows = (l .high, l .height); nodes = (omega arith, omega arith); room = h })
+    rw e (record { columns = (l .chip .wide, l .chip .width); rows = (l .chip .high, l .chip .height); nodes = (omega arith, omega arith); room = h })
 
 module _ {d : Design} {work : List ℕ} {s : Shape} (from : FromStairs d work s) where
   -- what laying out gives of this design
@@ -38,7 +38,7 @@ module _ {d : Design} {work : List ℕ} {s : Shape} (from : FromStairs d work s)
   laid-out e l z = (rw e at z) d (from .lawful) refl refl (record { left = λ t k u v h q. left-child (from .lawful) l h q })
 
   module _ {r : Layout} (z : LaidOut (boardOf d) (slotsOf d work) d s r) where
-    pub places-on : So (r .ok) → PlacesOn (d .width .0) (d .height .0) (d .modules) (r .places)
+    pub places-on : So (r .ok) → PlacesOn (widthOf d) (heightOf d) (d .modules) (r .places)
     places-on ok = record {
       on = λ k h. rw (z .places ok k h)
           (laid-on-chip d (from .lawful) (slotsOf d work) (from .stairs) anySuits s (from .stored) (sym (z .ok) ∙ ok) k h);

@@ -7,9 +7,8 @@ use native.Mathlib.Numerals.{add-one}
 use lib.ListN.{length, drop, length-append, length-drop}
 use lib.Seq.{sets}
 use Rattle.rules.specs.Placement.{Placement}
-use Rattle.rules.specs.Choice.{rowsOut}
+use Rattle.rules.specs.Choice.{rowOf, rowsOut}
 use Rattle.rules.proofs.RowsOut.{length-rows, row-more}
-use Rattle.placing.specs.Place.{rowOf}
 
 pub record Out (k : ℕ) (p : Placement) (before after : List ℕ) : Type 0 where
   pub is : after ≡ rowsOut k p ++ drop (4 * k) before

@@ -1,7 +1,7 @@
 -- One floorplan from stored lists: what each step asks for, and the answer by its outcomes.
 use mathlib.Core.Path.{_≡_}
 use mathlib.Core.Bool.{So}
-use mathlib.Core.List.{List, [], _∷_, _++_}
+use mathlib.Core.List.{List, _++_}
 use Prim.Native.Nat.{ℕ, _≤_, _<_}
 use lib.ListN.{length, drop}
 use Rattle.rules.specs.declared.Corner.{Corner}
@@ -15,7 +15,7 @@ use Rattle.rules.specs.Chip.{corner, OnChip}
 use Rattle.rules.specs.Placement.{Placement}
 use Rattle.rules.specs.Slot.{Stores, Empty}
 use Rattle.rules.specs.Choice.{Chosen, rowsOut}
-use Rattle.rules.specs.Design.{root, LawfulDesign, slotsOf, AllStairs, rootSlot, GoesDown}
+use Rattle.rules.specs.Design.{root, LawfulDesign, slotsOf, AllStairs, rootSlot, GoesDown, widthOf, heightOf}
 use Rattle.rules.specs.Check.{isSuited}
 use Rattle.rules.specs.Service.{workOf, rowsOf}
 use Rattle.rules.proofs.Test.{goesDown, laid}
@@ -31,24 +31,20 @@ pub record FromStairs (d : Design) (work : List ℕ) (s : Shape) : Type 0 where
   pub lawful : LawfulDesign d
   pub bytes : workOf d ≤ length work
   pub stairs : AllStairs d (slotsOf d work)
-  pub stored : Stores (d .width .0) (rootSlot d (slotsOf d work)) s
+  pub stored : Stores (widthOf d) (rootSlot d (slotsOf d work)) s
 
 -- what going down from the root's shape at (0, 0) gives, where the leaves have to suit
 pub record WentDown (d : Design) (slots : ℕ → Corner → ℕ → ℕ) (s : Shape) (r : Layout) : Type 0 where
-  pub ok : r .ok ≡ goesDown (d .width .0) (d .height .0) (isSuited d) slots (root d) (corner 0 0) s
+  pub ok : r .ok ≡ goesDown (widthOf d) (heightOf d) (isSuited d) slots (root d) (corner 0 0) s
   pub places : So (r .ok) → (k : ℕ) → k < d .modules
-      → placeOf (r .places) k ≡ laid (d .width .0) (d .height .0) slots (root d) (corner 0 0) s k
-  pub chip : So (r .ok) → PlacesOn (d .width .0) (d .height .0) (d .modules) (r .places)
-
--- a module's "four bytes x, y, w, h"
-abbrev pub rowOf : Rectangle → List ℕ
-rowOf r = r .corner .x .0 ∷ r .corner .y .0 ∷ r .shape .w .0 ∷ r .shape .h .0 ∷ []
+      → placeOf (r .places) k ≡ laid (widthOf d) (heightOf d) slots (root d) (corner 0 0) s k
+  pub chip : So (r .ok) → PlacesOn (widthOf d) (heightOf d) (d .modules) (r .places)
 
 -- the answer over lists that are all stairs, with room enough: the root's list is empty, or going down from its chosen shape fails, or
 -- it gives the floorplan
 pub record PlacedFrom (d : Design) (work rows : List ℕ) (r : Planned) (rows' : List ℕ) : Type 0 where
-  pub none : Empty (d .width .0) (rootSlot d (slotsOf d work)) → (r ≡ Refused NoPlacement) × (rows' ≡ rows)
-  pub lost : (s : Shape) → Chosen (d .width .0) (rootSlot d (slotsOf d work)) s → ((p : Placement) → GoesDown d (slotsOf d work) s p → ⊥)
+  pub none : Empty (widthOf d) (rootSlot d (slotsOf d work)) → (r ≡ Refused NoPlacement) × (rows' ≡ rows)
+  pub lost : (s : Shape) → Chosen (widthOf d) (rootSlot d (slotsOf d work)) s → ((p : Placement) → GoesDown d (slotsOf d work) s p → ⊥)
       → (r ≡ Refused Unreliable) × (rows' ≡ rows)
-  pub done : (s : Shape) (p : Placement) → Chosen (d .width .0) (rootSlot d (slotsOf d work)) s → GoesDown d (slotsOf d work) s p
+  pub done : (s : Shape) (p : Placement) → Chosen (widthOf d) (rootSlot d (slotsOf d work)) s → GoesDown d (slotsOf d work) s p
       → (r ≡ Box s) × (rows' ≡ rowsOut (d .modules) p ++ drop (rowsOf d) rows)

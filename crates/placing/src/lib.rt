@@ -18,16 +18,16 @@ ghost use lib.ListN.{length, drop};
 ghost use lib.Seq.{sets};
 ghost use Rattle.rules.specs.Search.{all};
 ghost use Rattle.rules.specs.Chip.{OnChip};
-ghost use Rattle.rules.specs.Choice.{rowsOut};
-ghost use Rattle.rules.specs.Design.{mostColumns, mostRows, mostModules, LawfulDesign, slotsOf, AllStairs};
+ghost use Rattle.rules.specs.Choice.{rowOf, rowsOut};
+ghost use Rattle.rules.specs.Design.{mostColumns, mostRows, mostModules, LawfulDesign, slotsOf, AllStairs, widthOf, heightOf};
 ghost use Rattle.rules.specs.Check.{isSuited};
 ghost use Rattle.rules.specs.Service.{Enough};
 ghost use Rattle.choosing.specs.Descend.{placeOf};
-ghost use Rattle.placing.specs.Place.{PlacesOn, FromStairs, WentDown, rowOf, PlacedFrom};
+ghost use Rattle.placing.specs.Place.{PlacesOn, FromStairs, WentDown, PlacedFrom};
 
 // Every module's place holds what it needs.
 fn all_suit(design: Design, places: [Rectangle; MOST_MODULES]) -> bool
-    requires { ⌜ LawfulDesign design × PlacesOn (design .width .0) (design .height .0) (design .modules) places ⌝ }
+    requires { ⌜ LawfulDesign design × PlacesOn (widthOf design) (heightOf design) (design .modules) places ⌝ }
     ensures { λ r. ⌜ r ≡ all (design .modules) (λ k. isSuited design k (placeOf places k)) ⌝ }
 {
     let modules = design.modules;

@@ -1,13 +1,12 @@
 // The plan program's text: put into bytes that are lent, byte for byte as the rules have it.
+use replies::number_of;
 use rules::Planned;
-use rules::Refusal;
-ghost use mathlib.Core.Path.{_≡_};
 ghost use mathlib.Core.List.{[], _∷_};
 ghost use Prim.Native.Nat.{_+_, _*_, _≤_, _<_};
 ghost use lib.ListN.{length};
-ghost use Rattle.rules.specs.Reply.{refusal};
-ghost use Rattle.rules.specs.Program.{decimal, figures, moduleLines, planText};
-ghost use Rattle.printing.specs.Text.{Puts, Prints, Room, moduleLine};
+ghost use Rattle.rules.specs.Program.{decimal, figures, moduleLine, moduleLines, planLine, planText};
+ghost use Rattle.putting.specs.Put.{Put};
+ghost use Rattle.printing.specs.Text.{Room};
 
 // Bytes enough for the text of any answer.
 pub const TEXT_ROOM: usize = 2048;
@@ -15,35 +14,10 @@ pub const TEXT_ROOM: usize = 2048;
 // How many digits a number has at most.
 const DIGITS: usize = 5;
 
-// A refusal's number, and beside it the position, module or token's position that it holds, or 0.
-pub struct Numbered(pub usize, pub usize);
-
-// The number of a refusal, and what is said beside it.
-pub fn number_of(e: Refusal) -> Numbered
-    ensures { λ r. ⌜ (r .0 ≡ refusal e .number) × (r .1 ≡ refusal e .value) ⌝ }
-{
-    match e {
-        Refusal::Unfinished(at) => Numbered(1, at),
-        Refusal::Malformed(at) => Numbered(2, at),
-        Refusal::WrongForm(at) => Numbered(3, at),
-        Refusal::BreaksLimits(at) => Numbered(4, at),
-        Refusal::BadToken(at) => Numbered(5, at),
-        Refusal::NotOneThing(at) => Numbered(6, at),
-        Refusal::ExtraBytes(at) => Numbered(7, at),
-        Refusal::TooShort => Numbered(8, 0),
-        Refusal::Unreliable => Numbered(9, 0),
-        Refusal::NoPlacement => Numbered(10, 0),
-        Refusal::NoSuchEdit => Numbered(11, 0),
-        Refusal::OffTheChip(k) => Numbered(12, k),
-        Refusal::ShortOfNeed(k) => Numbered(13, k),
-        Refusal::CutNotKept(t) => Numbered(14, t),
-    }
-}
-
 // Puts one byte.
 fn put_byte(out: &mut [u8], at: usize, b: u8) -> usize
     requires { ⌜ at < length (now out) ⌝ }
-    ensures { λ r. ⌜ Puts (now (out .entry)) at (b ∷ []) r (now (out .exit)) ⌝ }
+    ensures { λ r. ⌜ Put (now (out .entry)) at (b ∷ []) r (now (out .exit)) ⌝ }
 {
     out[at] = b;
     at + 1
@@ -52,7 +26,7 @@ fn put_byte(out: &mut [u8], at: usize, b: u8) -> usize
 // Puts one digit.
 fn put_digit(out: &mut [u8], at: usize, d: usize) -> usize
     requires { ⌜ (at < length (now out)) × (d < 10) ⌝ }
-    ensures { λ r. ⌜ Puts (now (out .entry)) at ((48 + d) ∷ []) r (now (out .exit)) ⌝ }
+    ensures { λ r. ⌜ Put (now (out .entry)) at ((48 + d) ∷ []) r (now (out .exit)) ⌝ }
 {
     put_byte(out, at, b'0' + d as u8)
 }
@@ -60,7 +34,7 @@ fn put_digit(out: &mut [u8], at: usize, d: usize) -> usize
 // Puts a number of at most so many digits, without leading zeros: the digits before the last one, then that.
 fn put_decimal(out: &mut [u8], at: usize, digits: usize, n: usize) -> usize
     requires { ⌜ at + digits ≤ length (now out) ⌝ }
-    ensures { λ r. ⌜ Puts (now (out .entry)) at (decimal digits n) r (now (out .exit)) ⌝ }
+    ensures { λ r. ⌜ Put (now (out .entry)) at (decimal digits n) r (now (out .exit)) ⌝ }
 {
     if digits == 0 {
         return at;
@@ -75,7 +49,7 @@ fn put_decimal(out: &mut [u8], at: usize, digits: usize, n: usize) -> usize
 // Puts a number in a line: a space before it.
 fn put_figure(out: &mut [u8], at: usize, n: usize) -> usize
     requires { ⌜ at + 6 ≤ length (now out) ⌝ }
-    ensures { λ r. ⌜ Puts (now (out .entry)) at (32 ∷ decimal 5 n) r (now (out .exit)) ⌝ }
+    ensures { λ r. ⌜ Put (now (out .entry)) at (32 ∷ decimal 5 n) r (now (out .exit)) ⌝ }
 {
     let next = put_byte(out, at, b' ');
     put_decimal(out, next, DIGITS, n)
@@ -84,7 +58,7 @@ fn put_figure(out: &mut [u8], at: usize, n: usize) -> usize
 // Puts the numbers of a line, and its newline.
 fn put_figures(out: &mut [u8], at: usize, numbers: &[usize]) -> usize
     requires { ⌜ at + 6 * length (now numbers) + 1 ≤ length (now out) ⌝ }
-    ensures { λ r. ⌜ Puts (now (out .entry)) at (figures (now (numbers .entry))) r (now (out .exit)) ⌝ }
+    ensures { λ r. ⌜ Put (now (out .entry)) at (figures (now (numbers .entry))) r (now (out .exit)) ⌝ }
 {
     let mut next = at;
     let mut i = 0;
@@ -98,7 +72,7 @@ fn put_figures(out: &mut [u8], at: usize, numbers: &[usize]) -> usize
 // Puts the line of module k: k x y w h.
 fn put_module(out: &mut [u8], at: usize, k: usize, rows: &[u8]) -> usize
     requires { ⌜ (at + 30 ≤ length (now out)) × (4 * k + 4 ≤ length (now rows)) ⌝ }
-    ensures { λ r. ⌜ Puts (now (out .entry)) at (moduleLine k (now (rows .entry))) r (now (out .exit)) ⌝ }
+    ensures { λ r. ⌜ Put (now (out .entry)) at (moduleLine k (now (rows .entry))) r (now (out .exit)) ⌝ }
 {
     let first = 4 * k;
     let numbers = [
@@ -114,7 +88,7 @@ fn put_module(out: &mut [u8], at: usize, k: usize, rows: &[u8]) -> usize
 // Puts a line for each module.
 fn put_modules(out: &mut [u8], at: usize, modules: usize, rows: &[u8]) -> usize
     requires { ⌜ (at + 30 * modules ≤ length (now out)) × (4 * modules ≤ length (now rows)) ⌝ }
-    ensures { λ r. ⌜ Puts (now (out .entry)) at (moduleLines modules (now (rows .entry))) r (now (out .exit)) ⌝ }
+    ensures { λ r. ⌜ Put (now (out .entry)) at (moduleLines modules (now (rows .entry))) r (now (out .exit)) ⌝ }
 {
     let mut next = at;
     for k in 0..modules {
@@ -126,7 +100,7 @@ fn put_modules(out: &mut [u8], at: usize, modules: usize, rows: &[u8]) -> usize
 // Puts the first line: "plan", and the numbers after it.
 fn put_plan(out: &mut [u8], numbers: &[usize]) -> usize
     requires { ⌜ 6 * length (now numbers) + 5 ≤ length (now out) ⌝ }
-    ensures { λ r. ⌜ Puts (now (out .entry)) 0 (112 ∷ 108 ∷ 97 ∷ 110 ∷ figures (now (numbers .entry))) r (now (out .exit)) ⌝ }
+    ensures { λ r. ⌜ Put (now (out .entry)) 0 (planLine (now (numbers .entry))) r (now (out .exit)) ⌝ }
 {
     out[0] = b'p';
     out[1] = b'l';
@@ -138,7 +112,7 @@ fn put_plan(out: &mut [u8], numbers: &[usize]) -> usize
 // Puts the text of an answer, with the rows of its modules, and gives the text's length.
 pub fn plan_text(answer: Planned, modules: usize, rows: &[u8], out: &mut [u8]) -> usize
     requires { ⌜ Room modules (now rows) (now out) ⌝ }
-    ensures { λ r. ⌜ Prints (now (out .entry)) (planText answer modules (now (rows .entry))) r (now (out .exit)) ⌝ }
+    ensures { λ r. ⌜ Put (now (out .entry)) 0 (planText answer modules (now (rows .entry))) r (now (out .exit)) ⌝ }
 {
     match answer {
         Planned::Box(s) => {

@@ -1,3 +1,2 @@
 -- What the contracts cite besides the rules.
 pub mod Parts
-pub mod Put

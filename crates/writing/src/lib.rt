@@ -3,16 +3,19 @@ ghost use mathlib.Core.Path.{_≡_};
 ghost use mathlib.Core.Bool.{So};
 ghost use Prim.Native.Nat.{_+_, _≤_};
 ghost use mathlib.Core.List.{_++_};
-ghost use lib.ListN.{length, getD, drop};
+ghost use lib.ListN.{length, drop};
 ghost use Rattle.rules.specs.Design.{mostColumns, mostModules, needAt, lawfulNeed, LawfulDesign};
-ghost use Rattle.rules.specs.Bytes.{numberBytes, needBytes, rowBytes, designBytes};
+ghost use Rattle.rules.specs.Bytes.{needBytes, rowBytes, designBytes};
 ghost use Rattle.rules.specs.Service.{Writes};
-ghost use Rattle.writing.specs.Parts.{headBytes, modulesBytes};
-ghost use Rattle.writing.specs.Put.{Put};
+ghost use Rattle.putting.specs.Put.{Put};
+ghost use Rattle.writing.specs.Parts.{headBytes, byteRow, modulesBytes, designRoom};
 use lawful::value_test;
 use numbers::number_len;
 use numbers::put_number;
 use rules::Design;
+use rules::MOST_COLUMNS;
+use rules::MOST_MODULES;
+use rules::MOST_TOKENS;
 use rules::Need;
 use rules::Refusal;
 use rules::Reply;
@@ -21,10 +24,20 @@ use rules::Written;
 // The number that stands first in every design's bytes.
 const FORM_NUMBER: usize = 1;
 
+// The bytes of the longest lawful design: one for each number but those of the needs, which take three.
+const DESIGN_ROOM: usize = 5 + MOST_COLUMNS + 9 * MOST_MODULES + MOST_TOKENS;
+
+// How many bytes the longest lawful design takes.
+pub fn design_room() -> usize
+    ensures { λ r. ⌜ r ≡ designRoom ⌝ }
+{
+    DESIGN_ROOM
+}
+
 // How many bytes the first `n` numbers of a row take.
 fn row_len(row: &[u8], n: usize) -> usize
     requires { ⌜ (n ≤ length (now row)) × (n ≤ mostColumns) ⌝ }
-    ensures { λ r. ⌜ r ≡ length (rowBytes numberBytes (λ i. getD (now (row .entry)) i 0) n) ⌝ }
+    ensures { λ r. ⌜ r ≡ length (byteRow (now (row .entry)) n) ⌝ }
 {
     let mut count = 0;
     for i in 0..n {
@@ -57,7 +70,10 @@ fn needs_len(d: Design) -> usize
 fn head_len(d: Design) -> usize
     ensures { λ r. ⌜ r ≡ length (headBytes d) ⌝ }
 {
-    number_len(FORM_NUMBER) + number_len(d.width.0) + number_len(d.height.0) + number_len(d.block.0)
+    number_len(FORM_NUMBER)
+        + number_len(d.chip.width.0)
+        + number_len(d.chip.height.0)
+        + number_len(d.chip.block.0)
 }
 
 // How many bytes the number of modules, their needs and the tokens take.
@@ -73,14 +89,14 @@ fn design_len(d: Design) -> usize
     requires { ⌜ LawfulDesign d ⌝ }
     ensures { λ r. ⌜ r ≡ length (designBytes d) ⌝ }
 {
-    head_len(d) + row_len(&d.kinds, d.width.0) + modules_len(d)
+    head_len(d) + row_len(&d.chip.kinds, d.chip.width.0) + modules_len(d)
 }
 
 // Puts the first `n` numbers of a row at `at`, and gives the position after them.
 fn put_row(out: &mut [u8], at: usize, row: &[u8], n: usize) -> usize
     requires { ⌜ n ≤ length (now row) ⌝ }
-    requires { ⌜ at + length (rowBytes numberBytes (λ i. getD (now row) i 0) n) ≤ length (now out) ⌝ }
-    ensures { λ r. ⌜ Put (now (out .entry)) at (rowBytes numberBytes (λ i. getD (now (row .entry)) i 0) n) r (now (out .exit)) ⌝ }
+    requires { ⌜ at + length (byteRow (now row) n) ≤ length (now out) ⌝ }
+    ensures { λ r. ⌜ Put (now (out .entry)) at (byteRow (now (row .entry)) n) r (now (out .exit)) ⌝ }
 {
     let mut next = at;
     for i in 0..n {
@@ -120,9 +136,9 @@ fn put_head(out: &mut [u8], d: Design) -> usize
     ensures { λ r. ⌜ Put (now (out .entry)) 0 (headBytes d) r (now (out .exit)) ⌝ }
 {
     let at = put_number(out, 0, FORM_NUMBER);
-    let at = put_number(out, at, d.width.0);
-    let at = put_number(out, at, d.height.0);
-    put_number(out, at, d.block.0)
+    let at = put_number(out, at, d.chip.width.0);
+    let at = put_number(out, at, d.chip.height.0);
+    put_number(out, at, d.chip.block.0)
 }
 
 // Puts the number of modules, their needs and the tokens at `at`, and gives the position after them.
@@ -143,11 +159,12 @@ fn put_design(out: &mut [u8], d: Design)
     ensures { λ _. ⌜ now (out .exit) ≡ designBytes d ++ drop (length (designBytes d)) (now (out .entry)) ⌝ }
 {
     let at = put_head(out, d);
-    let at = put_row(out, at, &d.kinds, d.width.0);
+    let at = put_row(out, at, &d.chip.kinds, d.chip.width.0);
     put_modules(out, at, d);
 }
 
-// Writes a design: one that breaks the rules is refused, then a buffer that is too short for it; otherwise its bytes are put in front.
+// Writes a design: one that breaks the rules is refused, then a buffer that is too short for it; otherwise its bytes are
+// put in front.
 pub fn write_design(d: Design, out: &mut [u8]) -> Written
     ensures { λ r. ⌜ Writes d (now (out .entry)) r (now (out .exit)) ⌝ }
 {

@@ -1,6 +1,6 @@
 -- `number_len` counts as the rules do: in each of its three cases the number's bytes are known one by one.
 -- Assumes nothing.
-use Rattle.numbers.proofs.Lengths.{one-byte, two-bytes, three-bytes}
+use Rattle.rules.proofs.Numbers.{one-byte, two-bytes, three-bytes}
 use Rattle.numbers.proofs.number_len.Statement.{statement}
 use Rattle.numbers.proofs.number_len.Tie as tie
 

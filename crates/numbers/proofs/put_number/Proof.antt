@@ -6,7 +6,7 @@ use native.Mathlib.Omega.{arith}
 use native.Mathlib.Numerals.{add-one}
 use lib.ListN.{length, length-set}
 use borrow.Author.Needs.{needs}
-use Rattle.numbers.proofs.Lengths.{one-byte, two-bytes, three-bytes}
+use Rattle.rules.proofs.Numbers.{one-byte, two-bytes, three-bytes}
 use Rattle.numbers.proofs.put_number.Statement.{statement}
 use Rattle.numbers.proofs.put_number.Tie as tie
 
@@ -23,7 +23,8 @@ same-length : tie.Need-same-length
 same-length c = search needs
 
 returns : tie.Need-returns
-returns c = rw (one-byte _ (c .if1 .taken)) (refl, refl)
+returns c =
+    let e = one-byte _ (c .if1 .taken) in rw e (record { counted = refl; inside = omega (arith, ap length e); stand = refl })
 
 add-low : tie.Need-add-low
 add-low c = search needs
@@ -50,7 +51,9 @@ same-length-2 : tie.Need-same-length-2
 same-length-2 c = search needs
 
 returns-2 : tie.Need-returns-2
-returns-2 c = rw (two-bytes _ (c .before .if1 .left) (c .if2 .taken)) (refl, rw add-one)
+returns-2 c =
+    let e = two-bytes _ (c .before .if1 .left) (c .if2 .taken) in
+    rw e (record { counted = refl; inside = omega (arith, ap length e); stand = rw add-one })
 
 add-middle : tie.Need-add-middle
 add-middle c = search needs
@@ -84,8 +87,9 @@ same-length-3 c = search needs
 
 returns-3 : tie.Need-returns-3
 returns-3 c =
-    let e : c .before .before .args .at + 2 ≡ suc (suc (c .before .before .args .at)) = omega arith in
-    rw (three-bytes _ (c .if2 .left)) (refl, rw (add-one, e))
+    let e = three-bytes _ (c .if2 .left) in
+    let n : c .before .before .args .at + 2 ≡ suc (suc (c .before .before .args .at)) = omega arith in
+    rw e (record { counted = refl; inside = omega (arith, ap length e); stand = rw (add-one, n) })
 
 pub put-number-spec : {M : Type 1} → statement M
 put-number-spec =

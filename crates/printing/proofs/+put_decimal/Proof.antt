@@ -6,7 +6,8 @@ use borrow.Author.Needs.{needs}
 use borrow.Fn.Kinds.{In}
 use borrow.Fn.PlainCycle.{Measures, is, falls, and}
 use Rattle.rules.specs.Program.{decimal}
-use Rattle.printing.proofs.Putting.{none-put, then-put, same-room, one-digit, more-digits, decimal-end}
+use Rattle.putting.proofs.Putting.{none-put, both-put, same-room}
+use Rattle.printing.proofs.Putting.{one-digit, more-digits, decimal-end}
 use Rattle.printing.proofs.put_decimal.Reads as reads
 use Rattle.printing.proofs.put_decimal.Kinds as kinds
 use Rattle.printing.proofs.+put_decimal.Lts-put_decimal as lts
@@ -58,7 +59,7 @@ module _ (t : ℕ) where
   returns-3 c =
       let called = c .before .before .before .before .before .before in let more = called .before .before in
       rw (more-digits _ _ (more .before .if1 .left) (more .if2 .left))
-      (then-put (called .put-decimal .ensures) (c .before .before .put-digit2 .ensures))
+      (both-put (called .put-decimal .ensures) (c .before .before .put-digit2 .ensures))
 
 pub +put-decimal-spec : {M : Type 1} → statement M
 +put-decimal-spec =

@@ -3,7 +3,8 @@
 use native.Mathlib.Omega.{arith}
 use borrow.Author.Needs.{needs}
 use Rattle.rules.specs.Program.{planText}
-use Rattle.printing.proofs.Putting.{same-room, then-put, printed, plan-end}
+use Rattle.putting.proofs.Putting.{same-room, both-put}
+use Rattle.printing.proofs.Putting.{plan-end}
 use Rattle.printing.proofs.plan_text.Statement.{statement}
 use Rattle.printing.proofs.plan_text.Tie as tie
 
@@ -40,7 +41,7 @@ unfolding planText
 returns c =
     let first = c .before .before .before .before .before .before in
     rw (first .before .before .before .before .answer .given .1, planText)
-    (printed (then-put (first .put-plan .ensures) (c .before .before .put-modules .ensures)))
+    (both-put (first .put-plan .ensures) (c .before .before .put-modules .ensures))
 
 same-length-2 : tie.Need-same-length-2
 same-length-2 c = search needs
@@ -50,7 +51,7 @@ unfolding planText
 returns-2 c =
     let told = c .before .before .before .before .before in let said = told .number-of .ensures in
     rw (told .before .before .answer2 .given .1, planText, ← said .0, ← said .1)
-    (printed (c .before .before .put-plan2 .ensures))
+    (c .before .before .put-plan2 .ensures)
 
 pub plan-text-spec : {M : Type 1} → statement M
 plan-text-spec =

@@ -1,6 +1,6 @@
 -- A space, and the number after it. Assumes nothing.
 use borrow.Author.Needs.{needs}
-use Rattle.printing.proofs.Putting.{then-put}
+use Rattle.putting.proofs.Putting.{both-put}
 use Rattle.printing.proofs.put_figure.Statement.{statement}
 use Rattle.printing.proofs.put_figure.Tie as tie
 
@@ -15,7 +15,7 @@ same-length c = search needs
 
 returns : tie.Need-returns
 returns c =
-    then-put (c .before .before .before .before .before .before .put-byte .ensures) (c .before .before .put-decimal .ensures)
+    both-put (c .before .before .before .before .before .before .put-byte .ensures) (c .before .before .put-decimal .ensures)
 
 pub put-figure-spec : {M : Type 1} → statement M
 put-figure-spec = tie.close (tie.spec put-byte-requires put-decimal-requires same-length returns)

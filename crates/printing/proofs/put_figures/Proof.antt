@@ -7,15 +7,16 @@ use native.Mathlib.Omega.{arith}
 use lib.ListN.{length, drop}
 use borrow.Author.Needs.{needs}
 use Rattle.rules.specs.Program.{figures}
-use Rattle.printing.specs.Text.{Puts}
-use Rattle.printing.proofs.Putting.{same-room, figure-end, figure-put, newline-put}
+use Rattle.putting.specs.Put.{Put}
+use Rattle.putting.proofs.Putting.{same-room}
+use Rattle.printing.proofs.Putting.{figure-end, figure-put, newline-put}
 use Rattle.printing.proofs.put_figures.Statement.{statement}
 use Rattle.printing.proofs.put_figures.Tie as tie
 
 abbrev Inv-loop : tie.InvT-loop
 Inv-loop out₀ at numbers next₀ i₀ out next i =
     (i ≤ length numbers) × (length out ≡ length out₀) × (next + 6 * (length numbers - i) + 1 ≤ length out)
-    × ((r : ℕ) (after : List ℕ) → Puts out next (figures (drop i numbers)) r after → Puts out₀ at (figures numbers) r after)
+    × ((r : ℕ) (after : List ℕ) → Put out next (figures (drop i numbers)) r after → Put out₀ at (figures numbers) r after)
 
 abbrev μ-loop : tie.MeasureT-loop
 μ-loop out₀ at numbers next₀ i₀ out next i = length numbers - i

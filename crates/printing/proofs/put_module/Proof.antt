@@ -1,8 +1,10 @@
 -- The module, then the four numbers of its row in a line; a byte fits where a number stands. Assumes nothing.
 use native.Mathlib.Omega.{arith}
 use borrow.Author.Needs.{needs, fits-under}
-use Rattle.printing.specs.Text.{moduleLine}
-use Rattle.printing.proofs.Putting.{same-room, then-put, decimal-end}
+use Rattle.rules.specs.Check.{fromRows}
+use Rattle.rules.specs.Program.{moduleLine}
+use Rattle.putting.proofs.Putting.{same-room, both-put}
+use Rattle.printing.proofs.Putting.{decimal-end}
 use Rattle.printing.proofs.put_module.Statement.{statement}
 use Rattle.printing.proofs.put_module.Tie as tie
 
@@ -56,9 +58,9 @@ same-length : tie.Need-same-length
 same-length c = search needs
 
 returns : tie.Need-returns
-unfolding moduleLine
+unfolding moduleLine fromRows
 returns c =
-    then-put (c .before .before .before .before .before .before .before .put-decimal .ensures) (c .before .before .put-figures .ensures)
+    both-put (c .before .before .before .before .before .before .before .put-decimal .ensures) (c .before .before .put-figures .ensures)
 
 pub put-module-spec : {M : Type 1} → statement M
 put-module-spec =

@@ -5,14 +5,15 @@ use native.Mathlib.Omega.{arith}
 use lib.ListN.{length}
 use borrow.Author.Needs.{needs}
 use Rattle.rules.specs.Program.{moduleLines}
-use Rattle.printing.specs.Text.{Puts}
-use Rattle.printing.proofs.Putting.{same-room, line-end, no-line-put, line-put}
+use Rattle.putting.specs.Put.{Put}
+use Rattle.putting.proofs.Putting.{same-room}
+use Rattle.printing.proofs.Putting.{line-end, no-line-put, line-put}
 use Rattle.printing.proofs.put_modules.Statement.{statement}
 use Rattle.printing.proofs.put_modules.Tie as tie
 
 abbrev Inv-loop : tie.InvT-loop
 Inv-loop out₀ at modules rows next₀ k₀ out next k =
-    Puts out₀ at (moduleLines k rows) next out × (k ≤ modules) × (next + 30 * (modules - k) ≤ length out)
+    Put out₀ at (moduleLines k rows) next out × (k ≤ modules) × (next + 30 * (modules - k) ≤ length out)
 
 abbrev μ-loop : tie.MeasureT-loop
 μ-loop out₀ at modules rows next₀ k₀ out next k = modules - k

@@ -3,7 +3,7 @@ use mathlib.Core.List.{[], _∷_}
 use native.Mathlib.Omega.{arith}
 use lib.ListN.{length-set}
 use borrow.Author.Needs.{needs}
-use Rattle.printing.proofs.Putting.{same-room, word-put, then-put}
+use Rattle.putting.proofs.Putting.{same-room, stored, both-put}
 use Rattle.printing.proofs.put_plan.Statement.{statement}
 use Rattle.printing.proofs.put_plan.Tie as tie
 
@@ -23,7 +23,7 @@ put-figures-requires : tie.Need-put-figures-requires
 put-figures-requires c κs = simp length-set (omega arith)
 
 returns : tie.Need-returns
-returns c = then-put (word-put (112 ∷ 108 ∷ 97 ∷ 110 ∷ []) (omega arith)) (c .before .before .put-figures .ensures)
+returns c = both-put (stored (112 ∷ 108 ∷ 97 ∷ 110 ∷ []) (omega arith)) (c .before .before .put-figures .ensures)
 
 same-length : tie.Need-same-length
 same-length c = same-room (returns c)

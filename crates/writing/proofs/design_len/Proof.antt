@@ -1,4 +1,4 @@
--- The parts' bytes, which are few, since there are at most 64 columns and 16 modules. Assumes nothing.
+-- The parts' bytes, which are few, since columns and modules are. Assumes nothing.
 use native.Mathlib.Omega.{arith}
 use borrow.Author.Needs.{needs}
 use Rattle.rules.proofs.Limits.{limits}

@@ -1,4 +1,4 @@
--- The count is the length of the needs' bytes so far; they are at most 16 needs of nine bytes, so it fits. Assumes nothing.
+-- The count is the length of the needs' bytes so far; a need takes at most nine bytes, so it fits. Assumes nothing.
 use mathlib.Core.Path.{_≡_}
 use Prim.Native.Nat.{_-_, _≤_}
 use native.Mathlib.Omega.{arith}

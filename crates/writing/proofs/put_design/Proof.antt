@@ -4,7 +4,7 @@ use native.Mathlib.Omega.{arith}
 use borrow.Author.Needs.{needs}
 use Rattle.rules.proofs.Limits.{limits}
 use Rattle.writing.proofs.Lengths.{design-parts, length-design}
-use Rattle.writing.proofs.Putting.{both-put, put-in-front}
+use Rattle.putting.proofs.Putting.{both-put, put-in-front}
 use Rattle.writing.proofs.put_design.Statement.{statement}
 use Rattle.writing.proofs.put_design.Tie as tie
 
@@ -32,9 +32,8 @@ returns c =
     let third = c .before .before in
     let second = third .before .before .before .before in
     let first = second .before .before .before .before .before .before .before in
-    let room = first .before .before .before .pre .1 in
     let p = both-put (first .put-head .ensures) (both-put (second .put-row .ensures) (third .put-modules .ensures)) in
-    rw design-parts (put-in-front p (rw design-parts at room))
+    rw design-parts (put-in-front p)
 
 pub put-design-spec : {M : Type 1} → statement M
 put-design-spec =

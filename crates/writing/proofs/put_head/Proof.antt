@@ -1,10 +1,10 @@
--- The four numbers are put one behind the other; the chip's are at most 64. Assumes nothing.
+-- The four numbers are put one behind the other; the chip's are within its limits. Assumes nothing.
 use native.Mathlib.Omega.{arith}
 use borrow.Author.Needs.{needs}
 use Rattle.writing.specs.Parts.{headBytes}
 use Rattle.rules.proofs.Limits.{limits}
 use Rattle.writing.proofs.Lengths.{length-head}
-use Rattle.writing.proofs.Putting.{number-put, both-put}
+use Rattle.putting.proofs.Putting.{both-put}
 use Rattle.writing.proofs.put_head.Statement.{statement}
 use Rattle.writing.proofs.put_head.Tie as tie
 
@@ -43,10 +43,8 @@ returns c =
     let third = fourth .before .before .before .before in
     let second = third .before .before .before .before in
     let first = second .before .before .before .before in
-    let d = first .before .before .before .args .d in
-    both-put (number-put 1 (first .put-number .ensures))
-    (both-put (number-put (d .width .0) (second .put-number2 .ensures))
-    (both-put (number-put (d .height .0) (third .put-number3 .ensures)) (number-put (d .block .0) (fourth .put-number4 .ensures))))
+    both-put (first .put-number .ensures)
+    (both-put (second .put-number2 .ensures) (both-put (third .put-number3 .ensures) (fourth .put-number4 .ensures)))
 
 pub put-head-spec : {M : Type 1} → statement M
 put-head-spec =

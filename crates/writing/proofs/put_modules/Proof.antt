@@ -1,11 +1,11 @@
--- The number of modules, the needs and the tokens are put one behind the other; a lawful design has at most 16 modules, and so at
--- most 31 tokens. Assumes nothing.
+-- The number of modules, the needs and the tokens are put one behind the other; a lawful design
+-- has no more modules and tokens than there are places. Assumes nothing.
 use native.Mathlib.Omega.{arith}
 use borrow.Author.Needs.{needs}
 use Rattle.writing.specs.Parts.{modulesBytes}
 use Rattle.rules.proofs.Limits.{limits}
 use Rattle.writing.proofs.Lengths.{length-modules}
-use Rattle.writing.proofs.Putting.{number-put, both-put}
+use Rattle.putting.proofs.Putting.{both-put}
 use Rattle.writing.proofs.put_modules.Statement.{statement}
 use Rattle.writing.proofs.put_modules.Tie as tie
 
@@ -42,8 +42,7 @@ returns c =
     let third = c .before .before in
     let second = third .before .before .before .before .before .before .before in
     let first = second .before .before .before .before in
-    let m = first .before .before .before .args .t3 .modules in
-    both-put (number-put m (first .put-number .ensures)) (both-put (second .put-needs .ensures) (third .put-row .ensures))
+    both-put (first .put-number .ensures) (both-put (second .put-needs .ensures) (third .put-row .ensures))
 
 pub put-modules-spec : {M : Type 1} → statement M
 put-modules-spec =

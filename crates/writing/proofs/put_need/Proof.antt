@@ -4,7 +4,7 @@ use borrow.Author.Needs.{needs}
 use Rattle.rules.specs.Bytes.{needBytes}
 use Rattle.rules.proofs.Limits.{need-limits}
 use Rattle.writing.proofs.Lengths.{length-need}
-use Rattle.writing.proofs.Putting.{number-put, both-put}
+use Rattle.putting.proofs.Putting.{both-put}
 use Rattle.writing.proofs.put_need.Statement.{statement}
 use Rattle.writing.proofs.put_need.Tie as tie
 
@@ -35,9 +35,8 @@ returns c =
     let third = c .before .before in
     let second = third .before .before .before .before in
     let first = second .before .before .before .before in
-    let n = first .before .before .before .args .n in
-    both-put (number-put (n .clbs) (first .put-number .ensures))
-    (both-put (number-put (n .rams) (second .put-number2 .ensures)) (number-put (n .multipliers) (third .put-number3 .ensures)))
+    both-put (first .put-number .ensures)
+    (both-put (second .put-number2 .ensures) (third .put-number3 .ensures))
 
 pub put-need-spec : {M : Type 1} → statement M
 put-need-spec =

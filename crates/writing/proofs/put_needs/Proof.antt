@@ -5,9 +5,10 @@ use native.Mathlib.Omega.{arith}
 use borrow.Author.Needs.{needs}
 use Rattle.rules.specs.Design.{needAt}
 use Rattle.rules.specs.Bytes.{needBytes, rowBytes}
-use Rattle.writing.specs.Put.{Put}
+use Rattle.putting.specs.Put.{Put}
 use Rattle.rules.proofs.Limits.{limits}
-use Rattle.writing.proofs.Putting.{same-room, row-begun, row-grown, next-fits}
+use Rattle.putting.proofs.Putting.{same-room}
+use Rattle.writing.proofs.Putting.{row-begun, row-grown, next-fits}
 use Rattle.writing.proofs.put_needs.Statement.{statement}
 use Rattle.writing.proofs.put_needs.Tie as tie
 
@@ -18,7 +19,7 @@ abbrev μ-loop : tie.MeasureT-loop
 μ-loop out₀ at d m next₀ k₀ out next k = m - k
 
 loop-holds : tie.Need-loop-holds Inv-loop μ-loop
-loop-holds c = (search needs, row-begun _ _)
+loop-holds c = (search needs, row-begun _ _ (omega arith))
 
 mul-put-need : tie.Need-mul-put-need Inv-loop μ-loop
 mul-put-need c = let s = c .before .before .before .before in let l = limits (s .args .t3) (s .pre .0) in omega arith

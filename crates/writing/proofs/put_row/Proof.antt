@@ -2,22 +2,22 @@
 use mathlib.Core.Path.{_≡_}
 use Prim.Native.Nat.{_-_, _≤_}
 use native.Mathlib.Omega.{arith}
-use lib.ListN.{getD}
 use borrow.Author.Needs.{needs}
-use Rattle.rules.specs.Bytes.{numberBytes, rowBytes}
-use Rattle.writing.specs.Put.{Put}
-use Rattle.writing.proofs.Putting.{number-put, same-room, row-begun, row-grown, next-fits}
+use Rattle.putting.specs.Put.{Put}
+use Rattle.writing.specs.Parts.{byteRow}
+use Rattle.putting.proofs.Putting.{same-room}
+use Rattle.writing.proofs.Putting.{row-begun, row-grown, next-fits}
 use Rattle.writing.proofs.put_row.Statement.{statement}
 use Rattle.writing.proofs.put_row.Tie as tie
 
 abbrev Inv-loop : tie.InvT-loop
-Inv-loop out₀ at row n next₀ i₀ out next i = (i ≤ n) × Put out₀ at (rowBytes numberBytes (λ j. getD row j 0) i) next out
+Inv-loop out₀ at row n next₀ i₀ out next i = (i ≤ n) × Put out₀ at (byteRow row i) next out
 
 abbrev μ-loop : tie.MeasureT-loop
 μ-loop out₀ at row n next₀ i₀ out next i = n - i
 
 loop-holds : tie.Need-loop-holds Inv-loop μ-loop
-loop-holds c = (search needs, row-begun _ _)
+loop-holds c = (search needs, row-begun _ _ (omega arith))
 
 shared-slice-read-put-number : tie.Need-shared-slice-read-put-number Inv-loop μ-loop
 shared-slice-read-put-number c = search needs
@@ -41,7 +41,7 @@ loop-less c = search needs
 loop-again : tie.Need-loop-again Inv-loop μ-loop
 loop-again c =
     let here = c .before .before .before .before .before .before in
-    (search needs, row-grown _ _ _ (here .loop .inv .1) (number-put _ (c .before .before .put-number .ensures)))
+    (search needs, row-grown _ _ _ (here .loop .inv .1) (c .before .before .put-number .ensures))
 
 same-length : tie.Need-same-length Inv-loop μ-loop
 same-length c = same-room (c .before .loop .inv .1)

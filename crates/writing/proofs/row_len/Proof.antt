@@ -1,16 +1,16 @@
--- The count is the length of the row's bytes so far; a row is at most 64 numbers of three bytes, so it fits. Assumes nothing.
+-- The count is the length of the row's bytes so far; a number takes at most three bytes, so it fits. Assumes nothing.
 use mathlib.Core.Path.{_≡_}
 use Prim.Native.Nat.{_-_, _≤_}
 use native.Mathlib.Omega.{arith}
-use lib.ListN.{length, getD}
+use lib.ListN.{length}
 use borrow.Author.Needs.{needs}
-use Rattle.rules.specs.Bytes.{numberBytes, rowBytes}
+use Rattle.writing.specs.Parts.{byteRow}
 use Rattle.writing.proofs.Lengths.{number-short, none-counted, one-counted, count-of-row}
 use Rattle.writing.proofs.row_len.Statement.{statement}
 use Rattle.writing.proofs.row_len.Tie as tie
 
 abbrev Inv-loop : tie.InvT-loop
-Inv-loop row n count₀ i₀ count i = (i ≤ n) × (count ≡ length (rowBytes numberBytes (λ j. getD row j 0) i))
+Inv-loop row n count₀ i₀ count i = (i ≤ n) × (count ≡ length (byteRow row i))
 
 abbrev μ-loop : tie.MeasureT-loop
 μ-loop row n count₀ i₀ count i = n - i

@@ -1,0 +1,2 @@
+-- What a caller's proof cites.
+pub mod Putting

@@ -1,0 +1,64 @@
+-- How many bytes the longest lawful design takes: each number is within its limit, and a lesser number takes no more bytes. No limit
+-- is named. Assumes nothing.
+use mathlib.Core.Path.{_≡_}
+use Prim.Native.Nat.{ℕ, zero, suc, _+_, _*_, _-_, _≤_, _<_}
+use native.Mathlib.Omega.{arith}
+use native.Mathlib.Nat.{le-trans, mul-le-mul-left}
+use native.Mathlib.Decide.{decLt}
+use lib.ListN.{length, getD}
+use borrow.Author.Tests.{le-ltb}
+use Rattle.rules.specs.declared.Token.the-variants.{Beyond}
+use Rattle.rules.specs.declared.Design.{Design}
+use Rattle.rules.specs.Chip.{kindAt}
+use Rattle.rules.specs.Tree.{Tree, tokenOf}
+use Rattle.rules.specs.Design.{mostColumns, mostRows, lastKind, mostModules, mostNumber}
+use Rattle.rules.specs.Design.{needAt, tokenAt, nodes, LawfulDesign, widthOf, heightOf}
+use Rattle.rules.specs.Bytes.{numberBytes, needBytes, rowBytes, designBytes}
+use Rattle.rules.proofs.Standing.{Node, is-leaf, is-cut}
+use Rattle.rules.proofs.Nodes.{node-at}
+use Rattle.rules.proofs.Limits.{limits, need-limits}
+use Rattle.writing.specs.Parts.{widest, designRoom}
+use Rattle.writing.proofs.Lengths.{lesser-shorter, length-need, row-short, length-head, length-modules, length-design}
+
+-- the tokens of a lawful design are its cuts and its modules
+small-token : (most v : ℕ) → (tokenOf most v ≡ Beyond → ⊥) → v ≤ most + 1
+small-token most zero h = omega arith
+small-token most (suc zero) h = omega arith
+small-token most (suc (suc k)) h = go (decLt k most)
+  where
+    go : Dec (k < most) → suc (suc k) ≤ most + 1
+    go (yes l) = omega arith
+    go (no l) = absurd (h (rw (le-ltb k most (omega arith), tokenOf)))
+
+module _ (d : Design) (lawful : LawfulDesign d) where
+  token-small : (t : ℕ) → t < nodes d → getD (d .tokens) t 0 ≤ mostModules + 1
+  token-small t h = small-token mostModules _ (not-beyond (node-at d lawful t h))
+    where
+      not-beyond : {u : Tree} → Node (d .modules) (tokenAt d) t u → tokenAt d t ≡ Beyond → ⊥
+      not-beyond (is-leaf e _) b = let z : _≡_ {A = ℕ} 0 1 = cc in omega arith
+      not-beyond (is-cut e _) b = let z : _≡_ {A = ℕ} 0 1 = cc in omega arith
+
+  need-small : (k : ℕ) → k < d .modules → length (needBytes (needAt d k)) ≤ 3 * widest mostNumber
+  need-small k h =
+      let n = needAt d k in let l = need-limits n (limits d lawful .needs k h) in
+      let a = lesser-shorter (n .clbs) mostNumber (l .clbs) in let b = lesser-shorter (n .rams) mostNumber (l .rams) in
+      let c = lesser-shorter (n .multipliers) mostNumber (l .multipliers) in omega (arith, length-need n)
+
+  -- what is put together: the form number, W, H, B, the kinds, m, the needs, the tokens
+  pub longest : length (designBytes d) ≤ designRoom
+  unfolding designRoom
+  longest =
+      let l = limits d lawful in let w = lesser-shorter (widthOf d) mostColumns (l .chip .width) in
+      let h = lesser-shorter (heightOf d) mostRows (l .chip .height) in
+      let b = lesser-shorter (d .chip .block .0) mostRows (omega arith) in
+      let m = lesser-shorter (d .modules) mostModules (l .modules) in
+      let kind = widest lastKind in let need = 3 * widest mostNumber in let token = widest (mostModules + 1) in
+      let kinds = le-trans
+      (row-short numberBytes (kindAt (d .chip)) kind (widthOf d) (λ x i. lesser-shorter _ lastKind (l .chip .kinds x i)))
+      (mul-le-mul-left kind (l .chip .width)) in
+      let needs = le-trans (row-short needBytes (needAt d) need (d .modules) need-small) (mul-le-mul-left need (l .modules)) in
+      let few : nodes d ≤ 2 * mostModules - 1 = omega arith in
+      let tokens = le-trans
+      (row-short numberBytes (λ t. getD (d .tokens) t 0) token (nodes d)
+      (λ t i. lesser-shorter _ (mostModules + 1) (token-small t i))) (mul-le-mul-left token few) in
+      omega (arith, length-design d, length-head d, length-modules d)
