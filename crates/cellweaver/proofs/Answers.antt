@@ -17,7 +17,7 @@ use Rattle.rules.specs.declared.Reply.the-variants.{Done, Refused}
 use Rattle.rules.specs.declared.Handed.{Handed}
 use Rattle.rules.specs.declared.Planned.{Planned}
 use Rattle.rules.specs.declared.Planned.the-variants as planned
-use Rattle.rules.specs.Design.{valueTest, LawfulDesign, slotsOf, AllStairs}
+use Rattle.rules.specs.Design.{Sized, valueTest, LawfulDesign, slotsOf, AllStairs}
 use Rattle.rules.specs.Edit.{namesPlace, changed, EditedLists}
 use Rattle.rules.specs.Check.{verdict, judgedRows, fromRows}
 use Rattle.rules.specs.Service.{Enough, workOf, rowsOf, Lists, Plans, Places, Edits, Checks}
@@ -27,9 +27,10 @@ use Rattle.listing.specs.Making.{ListedAfresh}
 use Rattle.placing.specs.Place.{PlacedFrom}
 
 -- list
-module _ (d : Design) (before : List ℕ) where
+module _ (d : Design) (sized : Sized d) (before : List ℕ) where
   pub list-refuses : {e : Refusal} → valueTest d ≡ Refused e → Lists d before (Refused e) before
   list-refuses u = record {
+    sized = sized;
     unlawful = λ f q. (ap Refused (same-refusal d u q), refl);
     short = λ l _. never-both d u l;
     done = λ l _. never-both d u l;
@@ -38,6 +39,7 @@ module _ (d : Design) (before : List ℕ) where
   module _ (l : LawfulDesign d) where
     pub list-short : length before < workOf d → Lists d before (Refused TooShort) before
     list-short h = record {
+      sized = sized;
       unlawful = λ e u. never-both d u l;
       short = λ _ _. (refl, refl);
       done = λ _ k. absurd (omega arith);
@@ -45,6 +47,7 @@ module _ (d : Design) (before : List ℕ) where
 
     pub list-done : {after : List ℕ} → workOf d ≤ length before → ListedAfresh d before after → Lists d before Done after
     list-done h z = record {
+      sized = sized;
       unlawful = λ e u. never-both d u l;
       short = λ _ k. absurd (omega arith);
       done = λ _ _. (refl, z .0, z .1);
@@ -61,7 +64,7 @@ room d work rows l s = let h = simp test-iffs at s in record { lawful = l; bytes
 pub room-kept : {d : Design} {work after rows : List ℕ} → Enough d work rows → length after ≡ length work → Enough d after rows
 room-kept e q = let b = e .bytes in record { lawful = e .lawful; bytes = omega arith; places = e .places }
 
-module _ (d : Design) (work rows : List ℕ) where
+module _ (d : Design) (sized : Sized d) (work rows : List ℕ) where
   no-room : {A : Type 0} → HasRoom d work rows ≡ false → Enough d work rows → A
   no-room f e = absurd-so (sym f ∙ simp test-iffs (e .bytes, e .places))
 
@@ -72,6 +75,7 @@ module _ (d : Design) (work rows : List ℕ) where
   -- plan
   pub plan-refuses : {e : Refusal} → valueTest d ≡ Refused e → Plans d work rows (planned.Refused e) work rows
   plan-refuses u = record {
+    sized = sized;
     unlawful = λ f q. (ap planned.Refused (same-refusal d u q), refl, refl);
     short = λ l _. never-both d u l;
     listed = λ e. never-both d u (e .lawful);
@@ -81,6 +85,7 @@ module _ (d : Design) (work rows : List ℕ) where
 
   pub plan-short : LawfulDesign d → HasRoom d work rows ≡ false → Plans d work rows (planned.Refused TooShort) work rows
   plan-short l f = record {
+    sized = sized;
     unlawful = λ e u. never-both d u l;
     short = λ _ _. (refl, refl, refl);
     listed = λ e. no-room f e;
@@ -90,6 +95,7 @@ module _ (d : Design) (work rows : List ℕ) where
 
   pub plan-done : {after rows' : List ℕ} {r : Planned} → Enough d work rows → ListedAfresh d work after → PlacedFrom d after rows r rows' → Plans d work rows r after rows'
   plan-done e l z = record {
+    sized = sized;
     unlawful = λ f u. never-both d u (e .lawful);
     short = λ _ h. not-short e h;
     listed = λ _. l;
@@ -100,6 +106,7 @@ module _ (d : Design) (work rows : List ℕ) where
   -- place
   pub place-refuses : {e : Refusal} → valueTest d ≡ Refused e → Places d work rows (planned.Refused e) rows
   place-refuses u = record {
+    sized = sized;
     unlawful = λ f q. (ap planned.Refused (same-refusal d u q), refl);
     short = λ l _. never-both d u l;
     stranger = λ e _. never-both d u (e .lawful);
@@ -110,6 +117,7 @@ module _ (d : Design) (work rows : List ℕ) where
 
   pub place-short : LawfulDesign d → HasRoom d work rows ≡ false → Places d work rows (planned.Refused TooShort) rows
   place-short l f = record {
+    sized = sized;
     unlawful = λ e u. never-both d u l;
     short = λ _ _. (refl, refl);
     stranger = λ e _. no-room f e;
@@ -121,6 +129,7 @@ module _ (d : Design) (work rows : List ℕ) where
   module _ (e : Enough d work rows) where
     pub place-stranger : (AllStairs d (slotsOf d work) → ⊥) → Places d work rows (planned.Refused Unreliable) rows
     place-stranger o = record {
+      sized = sized;
       unlawful = λ f u. never-both d u (e .lawful);
       short = λ _ h. not-short e h;
       stranger = λ _ _. (refl, refl);
@@ -131,6 +140,7 @@ module _ (d : Design) (work rows : List ℕ) where
 
     pub place-done : {rows' : List ℕ} {r : Planned} → AllStairs d (slotsOf d work) → PlacedFrom d work rows r rows' → Places d work rows r rows'
     place-done s z = record {
+      sized = sized;
       unlawful = λ f u. never-both d u (e .lawful);
       short = λ _ h. not-short e h;
       stranger = λ _ o. absurd (o s);
@@ -140,9 +150,10 @@ module _ (d : Design) (work rows : List ℕ) where
     }
 
 -- edit
-module _ (d : Design) (e : Edit) (before : List ℕ) where
+module _ (d : Design) (sized : Sized d) (e : Edit) (before : List ℕ) where
   pub edit-refuses : {f : Refusal} {r : Handed} → r ≡ record { reply = Refused f; design = d } → valueTest d ≡ Refused f → Edits d e before r before
   edit-refuses q u = record {
+    sized = sized;
     unlawful = λ f p. (q ∙ ap (λ g. record { reply = Refused g; design = d }) (same-refusal d u p), refl);
     unnamed = λ l _. never-both d u l;
     short = λ l _ _. never-both d u l;
@@ -153,6 +164,7 @@ module _ (d : Design) (e : Edit) (before : List ℕ) where
   module _ (l : LawfulDesign d) where
     pub edit-unnamed : {r : Handed} → r ≡ record { reply = Refused NoSuchEdit; design = d } → (So (namesPlace d e) → ⊥) → Edits d e before r before
     edit-unnamed q o = record {
+      sized = sized;
       unlawful = λ f u. never-both d u l;
       unnamed = λ _ _. (q, refl);
       short = λ _ s _. absurd (o s);
@@ -163,6 +175,7 @@ module _ (d : Design) (e : Edit) (before : List ℕ) where
     module _ (s : So (namesPlace d e)) where
       pub edit-short : {r : Handed} → r ≡ record { reply = Refused TooShort; design = d } → length before < workOf d → Edits d e before r before
       edit-short q h = record {
+        sized = sized;
         unlawful = λ f u. never-both d u l;
         unnamed = λ _ o. absurd (o s);
         short = λ _ _ _. (q, refl);
@@ -173,6 +186,7 @@ module _ (d : Design) (e : Edit) (before : List ℕ) where
       module _ (h : workOf d ≤ length before) where
         pub edit-stranger : {r : Handed} → r ≡ record { reply = Refused Unreliable; design = d } → (AllStairs d (slotsOf d before) → ⊥) → Edits d e before r before
         edit-stranger q o = record {
+          sized = sized;
           unlawful = λ f u. never-both d u l;
           unnamed = λ _ o. absurd (o s);
           short = λ _ _ k. absurd (omega arith);
@@ -183,6 +197,7 @@ module _ (d : Design) (e : Edit) (before : List ℕ) where
         pub edit-done : {next : Design} {after : List ℕ} → next ≡ changed d e → AllStairs d (slotsOf d before) → EditedLists d e before after
             → Edits d e before (record { reply = Done; design = next }) after
         edit-done q z m = record {
+          sized = sized;
           unlawful = λ f u. never-both d u l;
           unnamed = λ _ o. absurd (o s);
           short = λ _ _ k. absurd (omega arith);
@@ -191,15 +206,15 @@ module _ (d : Design) (e : Edit) (before : List ℕ) where
         }
 
 -- check
-module _ (d : Design) (rows : List ℕ) where
+module _ (d : Design) (sized : Sized d) (rows : List ℕ) where
   pub check-refuses : {e : Refusal} → valueTest d ≡ Refused e → Checks d rows (Refused e)
   unfolding verdict
-  check-refuses u = rw (verdict, u)
+  check-refuses u = record { sized = sized; judged = rw (verdict, u) }
 
   pub check-short : LawfulDesign d → length rows < 4 * d .modules → Checks d rows (Refused TooShort)
   unfolding verdict
-  check-short l h = rw (verdict, l, lt-leb (4 * d .modules) (length rows) h)
+  check-short l h = record { sized = sized; judged = rw (verdict, l, lt-leb (4 * d .modules) (length rows) h) }
 
   pub check-judged : {r : Reply} → LawfulDesign d → 4 * d .modules ≤ length rows → r ≡ judgedRows d (fromRows rows) → Checks d rows r
   unfolding verdict
-  check-judged l h q = rw (verdict, l, le-leb (4 * d .modules) (length rows) h) q
+  check-judged l h q = record { sized = sized; judged = rw (verdict, l, le-leb (4 * d .modules) (length rows) h) q }

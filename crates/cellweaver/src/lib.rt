@@ -22,19 +22,19 @@ ghost use mathlib.Core.Bool.{_&&_};
 ghost use Prim.Native.Nat.{_≤_};
 ghost use lib.Dec.{leb};
 ghost use lib.ListN.{length};
-ghost use Rattle.rules.specs.Design.{LawfulDesign, nodes, slotsOf};
+ghost use Rattle.rules.specs.Design.{LawfulDesign, nodes, slotsOf, widthOf, heightOf};
 ghost use Rattle.rules.specs.Service.{workOf, rowsOf, Reads, Writes, Lists, Plans, Places, Edits, Checks};
 ghost use Rattle.rules.specs.declared.Reply.the-variants.{Refused};
 ghost use Rattle.rules.proofs.Test.{areStairs};
 
 // The work bytes that a lawful design's lists take.
-fn work_needed(design: Design) -> usize
+pub fn work_needed(design: Design) -> usize
     requires { ⌜ LawfulDesign design ⌝ }
     ensures { λ r. ⌜ r ≡ workOf design ⌝ }
 {
-    let width = design.width.0;
+    let width = design.chip.width.0;
     let nodes = 2 * design.modules - 1;
-    nodes * design.height.0 * width * width
+    nodes * design.chip.height.0 * width * width
 }
 
 // The lent bytes have room for a lawful design's lists and rows.
@@ -48,7 +48,7 @@ fn has_room(design: Design, work: &[u8], rows: &[u8]) -> bool
 // Every slot of every node is a stair.
 fn are_stairs(design: Design, work: &[u8]) -> bool
     requires { ⌜ LawfulDesign design × (workOf design ≤ length (now work)) ⌝ }
-    ensures { λ r. ⌜ r ≡ areStairs (design .width .0) (design .height .0) (nodes design) (slotsOf design (now (work .entry))) ⌝ }
+    ensures { λ r. ⌜ r ≡ areStairs (widthOf design) (heightOf design) (nodes design) (slotsOf design (now (work .entry))) ⌝ }
 {
     all_stairs(work, board_of(design), 2 * design.modules - 1)
 }

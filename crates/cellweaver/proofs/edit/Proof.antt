@@ -5,7 +5,7 @@ use mathlib.Core.Bool.{So}
 use native.Mathlib.Omega.{arith}
 use borrow.Author.Needs.{needs}
 use Rattle.rules.specs.declared.Design.{Design}
-use Rattle.rules.specs.Design.{LawfulDesign}
+use Rattle.rules.specs.Design.{Sized, LawfulDesign}
 use Rattle.rules.specs.Edit.{namesPlace}
 use Rattle.rules.proofs.Searching.{absurd-so}
 use Rattle.rules.proofs.Testing.{failed, passed}
@@ -27,14 +27,17 @@ refused-requires c κs = search needs
 returns : tie.Need-returns
 returns c =
     let k = c .before .before in
-    edit-refuses _ _ _ (c .refused .ensures) (sym (k .before .before .value-test .ensures) ∙ k .reply .given .1)
+    edit-refuses _ (k .before .before .value-test .ensures .sized) _ _ (c .refused .ensures) (sym (k .before .before .value-test .ensures .is) ∙ k .reply .given .1)
 
 enum-told : tie.Need-enum-told
 enum-told c = search needs
 
 -- past the tests, and past 11
 is-lawful : (c : tie.After-enum-told) → LawfulDesign (c .before .before .before .before .args .design)
-is-lawful c = sym (c .before .before .value-test .ensures) ∙ c .enum-told .given .1
+is-lawful c = sym (c .before .before .value-test .ensures .is) ∙ c .enum-told .given .1
+
+has-places : (c : tie.After-enum-told) → Sized (c .before .before .before .before .args .design)
+has-places c = c .before .before .value-test .ensures .sized
 
 abbrev the-design : tie.Else1 → Design
 the-design c = c .before .before .before .before .before .before .args .design
@@ -51,7 +54,7 @@ refused-requires-2 c κs = search needs
 returns-2 : tie.Need-returns-2
 returns-2 c =
     let t = c .before in let n = t .before in
-    edit-unnamed _ _ _ (is-lawful (n .before)) (c .refused2 .ensures) (λ s. absurd-so (sym (failed (n .names-place .ensures) (t .if1 .taken)) ∙ s))
+    edit-unnamed _ (has-places (n .before)) _ _ (is-lawful (n .before)) (c .refused2 .ensures) (λ s. absurd-so (sym (failed (n .names-place .ensures) (t .if1 .taken)) ∙ s))
 
 work-needed-requires : tie.Need-work-needed-requires
 work-needed-requires c κs = is-lawful (c .before .before)
@@ -62,7 +65,7 @@ refused-requires-3 c κs = search needs
 returns-3 : tie.Need-returns-3
 returns-3 c =
     let e = c .before .before .before in
-    edit-short _ _ _ (is-lawful (e .before .before)) (is-named e) (c .refused3 .ensures) (omega arith)
+    edit-short _ (has-places (e .before .before)) _ _ (is-lawful (e .before .before)) (is-named e) (c .refused3 .ensures) (omega arith)
 
 are-stairs-requires : tie.Need-are-stairs-requires
 are-stairs-requires c κs = (is-lawful (c .before .before .before .before .before), omega arith)
@@ -76,7 +79,7 @@ same-length c = search needs
 returns-4 : tie.Need-returns-4
 returns-4 c =
     let t = c .before in let a = t .before in let e = a .before .before .before .before in
-    edit-stranger _ _ _ (is-lawful (e .before .before)) (is-named e) (omega arith) (c .refused4 .ensures) (no-stairs (the-design e) _ (a .are-stairs .ensures) (t .if3 .taken))
+    edit-stranger _ (has-places (e .before .before)) _ _ (is-lawful (e .before .before)) (is-named e) (omega arith) (c .refused4 .ensures) (no-stairs (the-design e) _ (a .are-stairs .ensures) (t .if3 .taken))
 
 with-change-requires : tie.Need-with-change-requires
 with-change-requires c κs = let e = c .before .before .before .before .before in (is-lawful (e .before .before), is-named e)
@@ -95,7 +98,7 @@ same-length-2 c = search needs
 returns-5 : tie.Need-returns-5
 returns-5 c =
     let l = c .before .before in let n = l .before in let w = n .before .before in let o = w .before in let a = o .before in let e = a .before .before .before .before in
-    edit-done _ _ _ (is-lawful (e .before .before)) (is-named e) (omega arith) (w .with-change .ensures) (stairs (the-design e) _ (a .are-stairs .ensures) (o .if3 .left))
+    edit-done _ (has-places (e .before .before)) _ _ (is-lawful (e .before .before)) (is-named e) (omega arith) (w .with-change .ensures) (stairs (the-design e) _ (a .are-stairs .ensures) (o .if3 .left))
     (way-made _ _ (rw (w .with-change .ensures, n .changed-node .ensures) at (l .list-way .ensures)))
 
 pub edit-spec : {M : Type 1} → statement M

@@ -2,7 +2,7 @@
 -- from the lists as they stand. Assumes nothing.
 use mathlib.Core.Path.{sym, _∙_}
 use Rattle.rules.specs.declared.Design.{Design}
-use Rattle.rules.specs.Design.{LawfulDesign}
+use Rattle.rules.specs.Design.{Sized, LawfulDesign}
 use Rattle.rules.specs.Service.{Enough}
 use Rattle.rules.proofs.Testing.{failed, passed}
 use Rattle.cellweaver.proofs.Needed.{no-stairs, stairs}
@@ -18,14 +18,17 @@ enum-known-reply : tie.Need-enum-known-reply
 enum-known-reply c = search needs
 
 returns : tie.Need-returns
-returns c = place-refuses _ _ _ (sym (c .before .before .before .value-test .ensures) ∙ c .before .reply .given .1)
+returns c = place-refuses _ (c .before .before .before .value-test .ensures .sized) _ _ (sym (c .before .before .before .value-test .ensures .is) ∙ c .before .reply .given .1)
 
 enum-told : tie.Need-enum-told
 enum-told c = search needs
 
 -- past the tests, and past 8
 is-lawful : (c : tie.After-enum-told) → LawfulDesign (c .before .before .before .before .before .args .design)
-is-lawful c = sym (c .before .before .value-test .ensures) ∙ c .enum-told .given .1
+is-lawful c = sym (c .before .before .value-test .ensures .is) ∙ c .enum-told .given .1
+
+has-places : (c : tie.After-enum-told) → Sized (c .before .before .before .before .before .args .design)
+has-places c = c .before .before .value-test .ensures .sized
 
 abbrev the-design : tie.Else1 → Design
 the-design c = c .before .before .before .before .before .before .before .before .args .design
@@ -40,7 +43,7 @@ same-length : tie.Need-same-length
 same-length c = search needs
 
 returns-2 : tie.Need-returns-2
-returns-2 c = let h = c .before in place-short _ _ _ (is-lawful (h .before .before)) (failed (h .has-room .ensures) (c .if1 .taken))
+returns-2 c = let h = c .before in place-short _ (has-places (h .before .before)) _ _ (is-lawful (h .before .before)) (failed (h .has-room .ensures) (c .if1 .taken))
 
 are-stairs-requires : tie.Need-are-stairs-requires
 are-stairs-requires c κs = let e = has-its-room c in (e .lawful, e .bytes)
@@ -49,7 +52,7 @@ same-length-2 : tie.Need-same-length-2
 same-length-2 c = search needs
 
 returns-3 : tie.Need-returns-3
-returns-3 c = let a = c .before in place-stranger _ _ _ (has-its-room (a .before)) (no-stairs (the-design (a .before)) _ (a .are-stairs .ensures) (c .if2 .taken))
+returns-3 c = let a = c .before in place-stranger _ (has-places (a .before .before .before .before)) _ _ (has-its-room (a .before)) (no-stairs (the-design (a .before)) _ (a .are-stairs .ensures) (c .if2 .taken))
 
 place-lists-requires : tie.Need-place-lists-requires
 place-lists-requires c κs = let o = c .before in let a = o .before in (has-its-room (a .before), stairs (the-design (a .before)) _ (a .are-stairs .ensures) (o .if2 .left))
@@ -60,7 +63,7 @@ same-length-3 c = search needs
 returns-4 : tie.Need-returns-4
 returns-4 c =
     let p = c .before .before in let o = p .before .before in let a = o .before in
-    place-done _ _ _ (has-its-room (a .before)) (stairs (the-design (a .before)) _ (a .are-stairs .ensures) (o .if2 .left)) (p .place-lists .ensures)
+    place-done _ (has-places (a .before .before .before .before)) _ _ (has-its-room (a .before)) (stairs (the-design (a .before)) _ (a .are-stairs .ensures) (o .if2 .left)) (p .place-lists .ensures)
 
 pub place-spec : {M : Type 1} → statement M
 place-spec =

@@ -2,7 +2,7 @@
 -- the design's own lists, which are stairs. Assumes nothing.
 use mathlib.Core.Path.{sym, _∙_}
 use native.Mathlib.Omega.{arith}
-use Rattle.rules.specs.Design.{LawfulDesign}
+use Rattle.rules.specs.Design.{Sized, LawfulDesign}
 use Rattle.rules.specs.Service.{Enough}
 use Rattle.rules.proofs.Testing.{failed, passed}
 use Rattle.rules.proofs.Floorplans.{own-stairs}
@@ -18,14 +18,17 @@ enum-known-reply : tie.Need-enum-known-reply
 enum-known-reply c = search needs
 
 returns : tie.Need-returns
-returns c = plan-refuses _ _ _ (sym (c .before .before .before .value-test .ensures) ∙ c .before .reply .given .1)
+returns c = plan-refuses _ (c .before .before .before .value-test .ensures .sized) _ _ (sym (c .before .before .before .value-test .ensures .is) ∙ c .before .reply .given .1)
 
 enum-told : tie.Need-enum-told
 enum-told c = search needs
 
 -- past the tests, and past 8
 is-lawful : (c : tie.After-enum-told) → LawfulDesign (c .before .before .before .before .before .args .design)
-is-lawful c = sym (c .before .before .value-test .ensures) ∙ c .enum-told .given .1
+is-lawful c = sym (c .before .before .value-test .ensures .is) ∙ c .enum-told .given .1
+
+has-places : (c : tie.After-enum-told) → Sized (c .before .before .before .before .before .args .design)
+has-places c = c .before .before .value-test .ensures .sized
 
 has-its-room : (c : tie.Else1) → let s = c .before .before .before .before .before .before .before .before .before in Enough (s .args .design) (s .args .work .now) (s .args .rows .now)
 has-its-room c = let h = c .before in room _ _ _ (is-lawful (h .before .before .before)) (passed (h .has-room .ensures) (c .if1 .left))
@@ -40,7 +43,7 @@ same-length-2 : tie.Need-same-length-2
 same-length-2 c = search needs
 
 returns-2 : tie.Need-returns-2
-returns-2 c = let h = c .before in plan-short _ _ _ (is-lawful (h .before .before .before)) (failed (h .has-room .ensures) (c .if1 .taken))
+returns-2 c = let h = c .before in plan-short _ (has-places (h .before .before .before)) _ _ (is-lawful (h .before .before .before)) (failed (h .has-room .ensures) (c .if1 .taken))
 
 list-all-requires : tie.Need-list-all-requires
 list-all-requires c κs = let e = has-its-room (c .before) in (e .lawful, e .bytes)
@@ -59,7 +62,7 @@ same-length-4 c = search needs
 returns-3 : tie.Need-returns-3
 returns-3 c =
     let p = c .before .before in let l = p .before .before .before .before .before in
-    plan-done _ _ _ (has-its-room (l .before .before)) (l .list-all .ensures) (p .place-lists .ensures)
+    plan-done _ (has-places (l .before .before .before .before .before .before)) _ _ (has-its-room (l .before .before)) (l .list-all .ensures) (p .place-lists .ensures)
 
 pub plan-spec : {M : Type 1} → statement M
 plan-spec =
