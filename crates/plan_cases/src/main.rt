@@ -1,7 +1,8 @@
-// Runs what the plan program runs on many inputs. A case on standard input is two bytes with its length, the low one first, and then its
-// bytes; the texts of all cases are printed one after the other.
+// Runs what the plan program runs on many inputs. A case on standard input is two bytes with its length, the low one
+// first, and then its bytes; the texts of all cases are printed one after the other.
 use printing::TEXT_ROOM;
 use program::MOST_INPUT;
+use program::WORK;
 use program::plan_bytes;
 use rules::MOST_MODULES;
 ghost use Prim.Native.Nat.{_+_, _*_, _≤_, _<_};
@@ -10,8 +11,6 @@ ghost use Rattle.rules.specs.Design.{mostModules};
 ghost use Rattle.printing.specs.Text.{textRoom};
 
 const ALL_CASES: usize = 65536;
-
-const WORK: usize = 65536;
 
 const IN: i32 = 0;
 
@@ -26,7 +25,8 @@ fn lesser(a: usize, b: usize) -> usize
 
 // Runs the case at a place, and gives the place of the next one.
 fn run_case(cases: &[u8], at: usize, work: &mut [u8], rows: &mut [u8], text: &mut [u8]) -> usize
-    requires { ⌜ (at + 2 ≤ length (now cases)) × (4 * mostModules ≤ length (now rows)) × (textRoom ≤ length (now text)) ⌝ }
+    requires { ⌜ at + 2 ≤ length (now cases) ⌝ }
+    requires { ⌜ (4 * mostModules ≤ length (now rows)) × (textRoom ≤ length (now text)) ⌝ }
     ensures { λ r. ⌜ (at < r) × (r ≤ length (now (cases .entry))) ⌝ }
 {
     let start = at + 2;

@@ -1,3 +1,3 @@
 -- What the proofs share, and what a caller takes.
 mod Reading
-pub mod Printed
+pub mod Once

@@ -1,7 +1,7 @@
 -- `plan_cases::run_case` meets its contract: a case ends with the bytes, if its length says more than there are. Assumes nothing.
 use Prim.Native.Nat.{_+_}
 use native.Mathlib.Omega.{arith}
-use Rattle.program.proofs.Printed.{printed}
+use Rattle.putting.proofs.Putting.{front-length}
 use borrow.Author.Needs.{needs}
 use Rattle.plan_cases.proofs.run_case.Statement.{statement}
 use Rattle.plan_cases.proofs.run_case.Tie as tie
@@ -58,7 +58,7 @@ slice-reshare-prefix-write-all : tie.Need-slice-reshare-prefix-write-all
 slice-reshare-prefix-write-all c = search needs
 
 slice-aggregate-write-all : tie.Need-slice-aggregate-write-all
-slice-aggregate-write-all c = printed (c .before .before .before .before .before .before .before .plan-bytes .ensures .prints)
+slice-aggregate-write-all c = front-length (c .before .before .before .before .before .before .before .plan-bytes .ensures .prints)
 
 write-all-requires : tie.Need-write-all-requires
 write-all-requires c κs = search needs

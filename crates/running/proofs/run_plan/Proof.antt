@@ -1,0 +1,38 @@
+-- `running::run_plan` meets its contract: every length that it lends is there. Assumes nothing.
+use Rattle.putting.proofs.Putting.{ends-inside, front-length}
+use borrow.Author.Needs.{needs}
+use Rattle.running.proofs.run_plan.Statement.{statement}
+use Rattle.running.proofs.run_plan.Tie as tie
+
+slice-aggregate-read-full : tie.Need-slice-aggregate-read-full
+slice-aggregate-read-full c = search needs
+
+read-full-requires : tie.Need-read-full-requires
+read-full-requires c κs = search needs
+
+plan-input-requires : tie.Need-plan-input-requires
+plan-input-requires c κs = search needs
+
+array-share-prefix-text : tie.Need-array-share-prefix-text
+array-share-prefix-text c = ends-inside (c .plan-input .ensures .runs .prints)
+
+slice-aggregate-write-all : tie.Need-slice-aggregate-write-all
+slice-aggregate-write-all c = front-length (c .before .plan-input .ensures .runs .prints)
+
+write-all-requires : tie.Need-write-all-requires
+write-all-requires c κs = search needs
+
+returns : tie.Need-returns
+returns c = search needs
+
+pub run-plan-spec : {M : Type 1} → statement M
+run-plan-spec =
+    tie.close
+    (tie.spec
+    slice-aggregate-read-full
+    read-full-requires
+    plan-input-requires
+    array-share-prefix-text
+    slice-aggregate-write-all
+    write-all-requires
+    returns)
