@@ -18,7 +18,7 @@ use Rattle.rules.specs.Chip.{corner}
 use Rattle.rules.specs.Placement.{Placement}
 use Rattle.rules.specs.Slot.{Empty}
 use Rattle.rules.specs.Choice.{Chosen}
-use Rattle.rules.specs.Design.{valueTest, LawfulDesign, nodes, root, SuitsOf, slotsOf, AllStairs, rootSlot, GoesDown}
+use Rattle.rules.specs.Design.{valueTest, LawfulDesign, nodes, root, SuitsOf, slotsOf, AllStairs, rootSlot, GoesDown, widthOf, heightOf}
 use Rattle.rules.specs.Edit.{namesPlace}
 use Rattle.rules.specs.Check.{isSuited}
 use Rattle.rules.proofs.Test.{goesDown}
@@ -63,14 +63,14 @@ two-lent d work rows = tests-first d λ l. ⊎-elim (λ h. inl (inl h))
 -- place, with enough room: over whatever stands in work
 pub data Placing (d : Design) (slots : ℕ → Corner → ℕ → ℕ) : Type 0 where
   no-stairs : (AllStairs d slots → ⊥) → Placing d slots
-  empty : AllStairs d slots → Empty (d .width .0) (rootSlot d slots) → Placing d slots
-  lost : AllStairs d slots → (s : Shape) → Chosen (d .width .0) (rootSlot d slots) s → ((p : Placement) → GoesDown d slots s p → ⊥) → Placing d slots
-  placed : AllStairs d slots → (s : Shape) (p : Placement) → Chosen (d .width .0) (rootSlot d slots) s → GoesDown d slots s p → Placing d slots
+  empty : AllStairs d slots → Empty (widthOf d) (rootSlot d slots) → Placing d slots
+  lost : AllStairs d slots → (s : Shape) → Chosen (widthOf d) (rootSlot d slots) s → ((p : Placement) → GoesDown d slots s p → ⊥) → Placing d slots
+  placed : AllStairs d slots → (s : Shape) (p : Placement) → Chosen (widthOf d) (rootSlot d slots) s → GoesDown d slots s p → Placing d slots
 
 -- from a shape of the root one goes down, or not
 goes-or-not : (d : Design) → LawfulDesign d → (slots : ℕ → Corner → ℕ → ℕ) (s : Shape) → ((p : Placement) × GoesDown d slots s p) ⊎ ((p : Placement) → GoesDown d slots s p → ⊥)
 goes-or-not d l slots s =
-    let W = d .width .0 in let H = d .height .0 in
+    let W = widthOf d in let H = heightOf d in
     ⊎-elim (λ t. inl (_, laid-down W H (SuitsOf d) slots (isSuited d) (suited-decides d) (root d) (lawful-tree d l .once) (corner 0 0) s t))
     (λ f. inr (λ p z. f (down-laid W H (SuitsOf d) slots (isSuited d) (suited-decides d) (root d) (lawful-tree d l .once) (corner 0 0) s p z .0)))
     (know (goesDown W H (isSuited d) slots (root d) (corner 0 0) s))
@@ -78,8 +78,8 @@ goes-or-not d l slots s =
 pub placing : (d : Design) → LawfulDesign d → (slots : ℕ → Corner → ℕ → ℕ) → Placing d slots
 placing d l slots = ⊎-elim
     (λ st. ⊎-elim (λ z. empty st (z .1))
-    (λ ch. ⊎-elim (λ z. placed st _ (z .0) ch (z .1)) (λ f. lost st _ ch f) (goes-or-not d l slots _)) (chooses (d .width .0) (rootSlot d slots)))
-    no-stairs (stairs-or-not (d .width .0) (d .height .0) (nodes d) slots)
+    (λ ch. ⊎-elim (λ z. placed st _ (z .0) ch (z .1)) (λ f. lost st _ ch f) (goes-or-not d l slots _)) (chooses (widthOf d) (rootSlot d slots)))
+    no-stairs (stairs-or-not (widthOf d) (heightOf d) (nodes d) slots)
 
 -- edit
 pub data Editing (d : Design) (e : Edit) (before : List ℕ) : Type 0 where
@@ -96,5 +96,5 @@ editing d e before = go (one-lent d (workOf d) before) (know (namesPlace d e))
     go (unlawful f t) _ = unlawful-design f t
     go (short l h) (inl n) = short-work l n h
     go (short l h) (inr n) = unnamed l n
-    go (enough l h) (inl n) = ⊎-elim (granted l n h) (stranger l n h) (stairs-or-not (d .width .0) (d .height .0) (nodes d) (slotsOf d before))
+    go (enough l h) (inl n) = ⊎-elim (granted l n h) (stranger l n h) (stairs-or-not (widthOf d) (heightOf d) (nodes d) (slotsOf d before))
     go (enough l h) (inr n) = unnamed l n

@@ -2,8 +2,13 @@
 pub mod Refusals
 pub mod Cases
 pub mod Unique
+pub mod Same
 pub mod Planning
 pub mod Answering
 pub mod Editing
 pub mod Copying
-pub mod Refuting
+pub mod Demands
+pub mod Inputs
+pub mod RefuteAnswers
+pub mod RefutePlans
+pub mod RefuteEdits

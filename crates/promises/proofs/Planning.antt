@@ -1,96 +1,86 @@
--- Demand 2 over the contracts of list, plan, place and check. The lists are complete, sorted and free of dominated shapes; plan says
--- "no placement" exactly if there is none, and otherwise its rectangles pass the checker, share no cell and have the least box;
--- and place, over what list writes, answers as plan does. Assumes nothing.
-use mathlib.Core.Path.{_≡_, refl, sym, _∙_, ap}
-use mathlib.Core.Logic.{_⊎_, inl, inr, ⊎-elim, _↔_}
+-- Demand 2 of list, plan and place. A design's own lists are complete, sorted and free of dominated shapes; over them either there is no
+-- placement, and that is said, or the floorplan promised goes out in the rows, with its box; and place, over own lists wherever they stand,
+-- answers as plan does. Assumes nothing.
+use mathlib.Core.Path.{_≡_, refl, sym, _∙_}
+use mathlib.Core.Logic.{⊎-elim}
 use mathlib.Core.Bool.{So}
 use mathlib.Core.List.{List, _++_}
-use Prim.Native.Nat.{ℕ, _+_, _-_, _≤_, _<_}
+use Prim.Native.Nat.{ℕ, _-_, _≤_, _<_}
 use native.Mathlib.Omega.{arith}
-use lib.ListN.{length, drop, length-append}
-use Rattle.rules.specs.declared.Corner.{Corner}
+use lib.ListN.{length, drop}
 use Rattle.rules.specs.declared.Shape.{Shape}
 use Rattle.rules.specs.declared.Design.{Design}
-use Rattle.rules.specs.declared.Refusal.the-variants.{NoPlacement}
 use Rattle.rules.specs.declared.Reply.{Reply}
-use Rattle.rules.specs.declared.Reply.the-variants.{Done}
 use Rattle.rules.specs.declared.Planned.{Planned}
-use Rattle.rules.specs.declared.Planned.the-variants.{Box, Refused}
-use Rattle.rules.specs.Placement.{Placement, ShareNoCell, box, area}
-use Rattle.rules.specs.Shape.{ShapeAt, Listed, Dominates}
-use Rattle.rules.specs.Slot.{Stores, CornerOn}
+use Rattle.rules.specs.Chip.{corner, right, top}
+use Rattle.rules.specs.Tree.{has, position}
+use Rattle.rules.specs.Placement.{Placement, box}
 use Rattle.rules.specs.Choice.{rowsOut}
-use Rattle.rules.specs.Design.{LawfulDesign, LawfulPlacement, nodeAt, nodes, root, SuitsOf, slotsOf, rootSlot, OwnLists}
-use Rattle.rules.specs.Check.{verdict, fromRows}
+use Rattle.rules.specs.Design.{LawfulDesign, LawfulPlacement, nodeAt, nodes, root, SuitsOf, slotsOf, rootSlot, OwnLists, widthOf, heightOf}
+use Rattle.rules.specs.Check.{fromRows}
+use Rattle.rules.specs.Reply.{plainly, plannedAnswer}
 use Rattle.rules.specs.Service.{Lists, Plans, Places, Enough, workOf, rowsOf}
 use Rattle.rules.proofs.Suiting.{design-decides}
 use Rattle.rules.proofs.Listing.{list-complete, list-sorted, list-unique, same-stores}
 use Rattle.rules.proofs.Nodes.{lawful-tree, part-node, last-node}
 use Rattle.rules.proofs.Agreeing.{Agree, chosen-agree, down-agree}
-use Rattle.rules.proofs.Placing.{lawful-same}
-use Rattle.rules.specs.Tree.{has, position}
-use Rattle.rules.specs.Chip.{corner}
+use Rattle.rules.proofs.Placing.{lawful-same, furthest-same}
 use Rattle.rules.proofs.Planning.{follow-apart}
 use Rattle.rules.proofs.Floorplans.{Floorplan, planned, own-stairs, corner-zero}
-use Rattle.rules.proofs.Checking.{passes-iff}
-use Rattle.rules.proofs.RowsOut.{length-rows, rows-back}
+use Rattle.rules.proofs.RowsOut.{rows-back}
+use Rattle.promises.specs.Demand1.{boxed}
+use Rattle.promises.specs.Demand2.{GoodLists, NoPlacement, GoodPlan, PlannedWell}
 
--- "Each list is complete, sorted and free of dominated shapes": of the slot of each node at each corner of the chip
-pub record GoodList (d : Design) (t : ℕ) (c : Corner) (bytes : ℕ → ℕ) : Type 0 where
-  pub shapes : (s : Shape) → Stores (d .width .0) bytes s → ShapeAt (d .width .0) (d .height .0) (SuitsOf d) (nodeAt d t) c s
-  pub complete : (s : Shape) → ShapeAt (d .width .0) (d .height .0) (SuitsOf d) (nodeAt d t) c s → (o : Shape) × Stores (d .width .0) bytes o × Dominates o s
-  pub sorted : (s o : Shape) → Stores (d .width .0) bytes s → Stores (d .width .0) bytes o → s .w .0 < o .w .0 → o .h .0 < s .h .0
-  pub undominated : (s o : Shape) → Stores (d .width .0) bytes s → ShapeAt (d .width .0) (d .height .0) (SuitsOf d) (nodeAt d t) c o → Dominates o s → o ≡ s
-
-own-good : (d : Design) (slots : ℕ → Corner → ℕ → ℕ) → OwnLists d slots → (t : ℕ) (c : Corner) → t < nodes d → CornerOn (d .width .0) (d .height .0) c → GoodList d t c (slots t c)
-own-good d slots own t c h on = let l = own t h c on in record {
+-- "Each list is complete, sorted and free of dominated shapes": a design's own lists are
+pub own-good : (d : Design) (work : List ℕ) → OwnLists d (slotsOf d work) → GoodLists d work
+own-good d work own t c h on = let l = own t h c on in record {
   shapes = λ s z. l s .0 z .is;
   complete = λ s z. let (o, i, e) = list-complete (design-decides d) (nodeAt d t) c s z in (o, l o .1 i, e);
-  sorted = λ s o x y. list-sorted (d .width .0) (slots t c) l s o x y;
+  sorted = λ s o x y. list-sorted (widthOf d) (slotsOf d work t c) l s o x y;
   undominated = λ s o x y e. l s .0 x .alone o y e;
 }
 
-pub lists-are-good : (d : Design) (before after : List ℕ) (r : Reply) → Lists d before r after → LawfulDesign d → workOf d ≤ length before
-    → (t : ℕ) (c : Corner) → t < nodes d → CornerOn (d .width .0) (d .height .0) c → GoodList d t c (slotsOf d after t c)
-lists-are-good d before after r x l h = own-good d (slotsOf d after) (x .done l h .2)
+-- Rows that are written out hold their placement: its rectangles, its box.
+module _ (d : Design) (l : LawfulDesign d) (p : Placement) (rows rows' : List ℕ) (e : rows' ≡ rowsOut (d .modules) p ++ drop (rowsOf d) rows) where
+  same-rectangles : (k : ℕ) → So (has (root d) k) → p k ≡ fromRows rows' k
+  same-rectangles k i = rw e (sym (rows-back (d .modules) p (drop (rowsOf d) rows) k (lawful-tree d l .modules k .0 i)))
 
--- what plan promises where it answers with a box
-pub record GoodPlan (d : Design) (s : Shape) (rows : List ℕ) : Type 0 where
-  pub passes : verdict d rows ≡ Done
-  pub apart : ShareNoCell (root d) (fromRows rows)
-  pub smallest : (q : Placement) → LawfulPlacement d q → area s ≤ area (box (root d) q)
+  pub rows-lawful : LawfulPlacement d p → LawfulPlacement d (fromRows rows')
+  rows-lawful f = lawful-same (root d) p (fromRows rows') same-rectangles f
 
--- the rows of a lawful placement pass the checker, and share no cell
-pub rows-pass : (d : Design) → LawfulDesign d → (p : Placement) → LawfulPlacement d p → (rows rows' : List ℕ) → rowsOf d ≤ length rows
-    → rows' ≡ rowsOut (d .modules) p ++ drop (rowsOf d) rows → (verdict d rows' ≡ Done) × ShareNoCell (root d) (fromRows rows')
-rows-pass d l p f rows rows' h e =
-    let t = lawful-tree d l in
-    let same : (k : ℕ) → So (has (root d) k) → p k ≡ fromRows rows' k = λ k i. rw e (sym (rows-back (d .modules) p (drop (rowsOf d) rows) k (t .modules k .0 i))) in
-    let w = lawful-same (root d) p (fromRows rows') same f in
-    (passes-iff d l rows' .1 (rw e (simp (length-append, length-rows) (omega arith)), w), follow-apart (root d) (fromRows rows') (w .follows))
+  rows-boxed : box (root d) p ≡ box (root d) (fromRows rows')
+  rows-boxed = rw (furthest-same right (root d) p (fromRows rows') same-rectangles, furthest-same top (root d) p (fromRows rows') same-rectangles)
+
+  -- and where it is the floorplan promised, they are a good plan
+  pub rows-good : (s : Shape) → Floorplan d s p → GoodPlan d s rows'
+  rows-good s f =
+      let w = rows-lawful (f .lawful) in let t = lawful-tree d l .modules in record {
+        follow = w .follows;
+        on-chip = λ k h. w .onChip k (t k .1 h);
+        meet = λ k h. w .suits k (t k .1 h);
+        apart = λ i j x y h g. follow-apart (root d) (fromRows rows') (w .follows) i j x y (t i .1 h) (t j .1 g);
+        smallest = f .smallest;
+        boxed = sym (f .boxed) ∙ rows-boxed;
+      }
+
+-- "no placement", or a floorplan: what is said, and of what
+none-planned : (d : Design) (rows : List ℕ) → NoPlacement d → PlannedWell d (plainly 10 0) rows
+none-planned d rows f = record { none = (λ _. f, λ _. refl); otherwise = λ o. absurd (o refl) }
+
+good-planned : (d : Design) (s : Shape) (p : Placement) (rows : List ℕ) → Floorplan d s p → GoodPlan d s rows → PlannedWell d (boxed s) rows
+good-planned d s p rows f g = record { none = (λ e. absurd (omega arith), λ n. absurd (n p (f .lawful))); otherwise = λ _. (refl, g) }
 
 module _ (d : Design) (before rows after rows' : List ℕ) (r : Planned) (x : Plans d before rows r after rows') (h : Enough d before rows) where
-  rows-good : (s : Shape) (p : Placement) → rows' ≡ rowsOut (d .modules) p ++ drop (rowsOf d) rows → Floorplan d s p → GoodPlan d s rows'
-  rows-good s p e f = let (a, b) = rows-pass d (h .lawful) p (f .lawful) rows rows' (h .places) e in record { passes = a; apart = b; smallest = f .smallest }
-
-  -- plan answers with "no placement" and there is none, or with a box and a good plan
-  pub plan-answers : ((r ≡ Refused NoPlacement) × (rows' ≡ rows) × ((p : Placement) → LawfulPlacement d p → ⊥)) ⊎ ((s : Shape) × (r ≡ Box s) × GoodPlan d s rows')
-  plan-answers = ⊎-elim
-      (λ z. let (a, b) = x .none h (z .0) in inl (a, b, z .1))
-      (λ z. let (s, ch, (p, down, f)) = z in let (a, b) = x .done h s p ch down in inr (s, a, rows-good s p b f))
+  pub planned-well : PlannedWell d (plannedAnswer r) rows'
+  planned-well = ⊎-elim
+      (λ z. rw (x .none h (z .0) .0) (none-planned d rows' (z .1)))
+      (λ z. let (s, ch, (p, down, f)) = z in let (a, b) = x .done h s p ch down in rw a (good-planned d s p rows' f (rows-good d (h .lawful) p rows rows' b s f)))
       (planned d (h .lawful) (slotsOf d after) (x .listed h .1))
-
-  -- "no placement" is said exactly if no placement on the chip follows the tree and meets every need
-  pub none-exactly : (r ≡ Refused NoPlacement) ↔ ((p : Placement) → LawfulPlacement d p → ⊥)
-  none-exactly = (
-    λ e. ⊎-elim (λ z. z .2) (λ z. let (s, a, g) = z in let q : _≡_ {A = ℕ} 0 1 = cc in absurd (omega arith)) plan-answers,
-    λ f. ⊎-elim (λ z. z .0) (λ z. let (s, a, g) = z in absurd (f (fromRows rows') (passes-iff d (h .lawful) rows' .0 (g .passes) .1))) plan-answers,
-  )
 
   -- place, over the design's own lists wherever they stand, gives plan's reply, box and rows
   pub place-as-plan : (work out : List ℕ) (r' : Planned) → workOf d ≤ length work → OwnLists d (slotsOf d work) → Places d work rows r' out → (r' ≡ r) × (out ≡ rows')
   place-as-plan work out r' w own z =
-      let W = d .width .0 in let H = d .height .0 in let o = x .listed h .1 in
+      let W = widthOf d in let H = heightOf d in let o = x .listed h .1 in
       let lent : Enough d work rows = record { lawful = h .lawful; bytes = w; places = h .places } in
       let st = own-stairs d (h .lawful) (slotsOf d work) own in
       let same : (t : ℕ) → t < nodes d → Agree W H (slotsOf d after t) (slotsOf d work t) =
@@ -105,6 +95,15 @@ module _ (d : Design) (before rows after rows' : List ℕ) (r : Planned) (x : Pl
       (down-agree W H (SuitsOf d) (slotsOf d after) (slotsOf d work) (root d) (λ u q. same (position u) (part-node d (h .lawful) u q .0)) (corner 0 0) (corner-zero d (h .lawful)) s p down) in
       (a' ∙ sym a, b' ∙ sym b))
       (planned d (h .lawful) (slotsOf d after) o)
+
+-- place over own lists
+pub placed-well : (d : Design) (work rows rows' : List ℕ) (r : Planned) → Places d work rows r rows' → Enough d work rows → OwnLists d (slotsOf d work)
+    → PlannedWell d (plannedAnswer r) rows'
+placed-well d work rows rows' r x h own =
+    let st = own-stairs d (h .lawful) (slotsOf d work) own in
+    ⊎-elim (λ z. rw (x .none h st (z .0) .0) (none-planned d rows' (z .1)))
+    (λ z. let (s, ch, (p, down, f)) = z in let (a, b) = x .done h st s p ch down in rw a (good-planned d s p rows' f (rows-good d (h .lawful) p rows rows' b s f)))
+    (planned d (h .lawful) (slotsOf d work) own)
 
 -- "place over what list writes gives plan's reply, box and rows"
 pub list-then-place : (d : Design) (before rows listed after out rows' : List ℕ) (r : Reply) (q r' : Planned)

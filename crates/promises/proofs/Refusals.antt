@@ -1,6 +1,6 @@
 -- Which refusals there are: of a design handed over as a value 4 or 5, of a reading 1, 2, 3, 4, 5 or 7. Each test has its own, and 6 is
 -- never given, since 2m-1 tokens that pass leave one thing standing. Assumes nothing.
-use mathlib.Core.Path.{_≡_, refl, ap}
+use mathlib.Core.Path.{_≡_, refl, sym, _∙_, ap}
 use mathlib.Core.Logic.{_⊎_, ⊎-elim}
 use mathlib.Core.Bool.{Bool, true, false, So}
 use mathlib.Core.List.{List, [], _∷_}
@@ -16,30 +16,30 @@ use Rattle.rules.specs.declared.Reply.the-variants.{Refused}
 use Rattle.rules.specs.Tree.{Tree, Standing, refused, things, tokenOf, after}
 use Rattle.rules.specs.Design.{mostModules, nodes, lawfulNeed, standingOf, withinLimits, treeTest, valueTest}
 use Rattle.rules.specs.Bytes.{Took, took, refuse, andThen, judged, numberAt, checkedAt, rowAt, needOf, keptToken, tokensAt, designAt}
+use Rattle.rules.specs.Reply.{Answer, refusal}
+use Rattle.rules.proofs.Searching.{absurd-so}
+use Rattle.rules.proofs.Testing.{range-iff}
 use Rattle.rules.proofs.Nodes.{never-not-one-thing}
 use Rattle.rules.proofs.Standing.{one-stands}
 use Rattle.rules.proofs.Numbers.{Answers, takes, refuses, number-read}
-use Rattle.rules.proofs.Reading.{in-range, oneMore, allMore, over-nothing}
+use Rattle.rules.proofs.Reading.{oneMore, allMore, over-nothing}
+use Rattle.promises.specs.Demand1.{Tested, breaks-limits, bad-token}
 
--- "with 4, 5 or 6 at position 0"
-pub data OfValue : Refusal → Type 0 where
-  breaks-limits : OfValue (BreaksLimits 0)
-  bad-token : OfValue (BadToken 0)
-
-pub value-refused : (d : Design) (e : Refusal) → valueTest d ≡ Refused e → OfValue e
+-- a design that its own tests refuse: 4, or else 5
+pub value-refused : (d : Design) (e : Refusal) → valueTest d ≡ Refused e → {Then : Answer → Type 0} → Tested d Then (refusal e)
 unfolding valueTest
-value-refused d e q = go (withinLimits d) refl q
+value-refused d e q {Then} = go (withinLimits d) refl q
   where
-    tree : So (withinLimits d) → (s : Standing) → standingOf d (nodes d) ≡ s → treeTest s ≡ Refused e → OfValue e
-    tree t refused p q = let x : BadToken 0 ≡ e = cc in rw (← x) bad-token
+    tree : So (withinLimits d) → (s : Standing) → standingOf d (nodes d) ≡ s → treeTest s ≡ Refused e → Tested d Then (refusal e)
+    tree t refused p q = let x : BadToken 0 ≡ e = cc in rw (← x) (bad-token t p)
     tree t (things []) p q = absurd (never-not-one-thing d 0 t (ap treeTest p))
     tree t (things (u ∷ [])) p q = let z : _≡_ {A = ℕ} 0 1 = cc in absurd (omega arith)
     tree t (things (u ∷ (v ∷ ts))) p q = absurd (never-not-one-thing d 0 t (ap treeTest p))
 
     go : (b : Bool) → withinLimits d ≡ b
-        → elim b as (λ _. Reply) [ true ↦ treeTest (standingOf d (nodes d)) | false ↦ Refused (BreaksLimits 0) ] ≡ Refused e → OfValue e
+        → elim b as (λ _. Reply) [ true ↦ treeTest (standingOf d (nodes d)) | false ↦ Refused (BreaksLimits 0) ] ≡ Refused e → Tested d Then (refusal e)
     go true t q = tree t (standingOf d (nodes d)) refl q
-    go false t q = let x : BreaksLimits 0 ≡ e = cc in rw (← x) breaks-limits
+    go false t q = let x : BreaksLimits 0 ≡ e = cc in rw (← x) (breaks-limits (λ s. absurd-so (sym t ∙ s)))
 
 -- "Numbers are judged as they are read: 1 or 2 first, then 3, 4 or 5, then 6, then 7."
 pub data OfReading : Refusal → Type 0 where
@@ -119,7 +119,7 @@ design-taking s =
     then-taking (row-taking (checked-taking _ _ (λ _. breaks-limits-at) s) w at-kinds) λ kinds at-m _.
     then-taking (checked-taking _ _ (λ _. breaks-limits-at) s at-m) λ m at-needs t.
     then-taking (row-taking (need-taking s) m at-needs) λ needs at-tokens _.
-    then-taking (tokens-taking s m 0 (2 * m - 1) [] at-tokens (all-tokens m (in-range 1 _ m t .0))) λ tokens end _.
+    then-taking (tokens-taking s m 0 (2 * m - 1) [] at-tokens (all-tokens m (range-iff 1 _ m .0 t .0))) λ tokens end _.
     judged-taking (eqb end (length s)) (ExtraBytes end) _ end extra-bytes λ _. tt
 
 pub reading-refused : (s : List ℕ) (e : Refusal) → designAt s ≡ refuse e → OfReading e

@@ -1,0 +1,312 @@
+-- Wrong services that demand 1 rejects, each by an input: what a number of its table would have to mean there does not hold, or a buffer does not
+-- stand. Nothing of a service is known here but the demand. Assumes nothing.
+use mathlib.Core.Path.{_≡_, refl, sym, _∙_, ap}
+use mathlib.Core.Logic.{_⊎_, inl, inr}
+use mathlib.Core.Bool.{So}
+use mathlib.Core.List.{List, [], _∷_}
+use Prim.Native.Nat.{ℕ, _≤_, _<_}
+use native.Mathlib.Omega.{arith}
+use lib.ListN.{length, getD, replicate, length-replicate, getD-replicate}
+use Rattle.rules.specs.declared.Design.{Design}
+use Rattle.rules.specs.declared.Edit.the-variants.{Change, Turn}
+use Rattle.rules.specs.declared.Refusal.{Refusal}
+use Rattle.rules.specs.declared.Refusal.the-variants.{Unfinished, Malformed, WrongForm, BreaksLimits, BadToken, ExtraBytes}
+use Rattle.rules.specs.declared.Reply.{Reply}
+use Rattle.rules.specs.declared.Handed.{Handed}
+use Rattle.rules.specs.declared.Written.{Written}
+use Rattle.rules.specs.declared.Planned.{Planned}
+use Rattle.rules.specs.Search.{all, count, total}
+use Rattle.rules.specs.Chip.{OnChip, corner, column, columnOf, coversBlock, heldBetween, holds}
+use Rattle.rules.specs.Tree.{stands, has, joined, added, standing}
+use Rattle.rules.specs.Slot.{slot}
+use Rattle.rules.specs.Design.{LawfulDesign, LawfulPlacement, SuitsOf, inRange, lawfulNeed, slotsOf, AllStairs, OwnLists, widthOf}
+use Rattle.rules.specs.Bytes.{took, refuse, padded, numberBytes, needBytes, rowBytes, designBytes, numberAt, secondByte, thirdByte, checkedAt, rowAt, needOf, tokensAt, designAt}
+use Rattle.rules.specs.Check.{fromRows, FirstOff, FirstShort}
+use Rattle.rules.specs.Reply.{Answer, plainly, refusal, answer, writtenAnswer, plannedAnswer}
+use Rattle.rules.specs.Service.{Enough, workOf, rowsOf, zeros}
+use Rattle.rules.specs.Bench.{D, need, bytesEnding}
+use Rattle.rules.proofs.Checking.{on-chip-iff}
+use Rattle.promises.specs.Services.{Services}
+use Rattle.promises.specs.Demand1
+use Rattle.promises.proofs.Inputs.{D-lawful, D-enough, tall, tall-breaks-limits, twice, twice-bad-token, names-turned, names-no-zero-need, starved, half-block, over-the-side, printed, printed-lawful, of-lawful, gets-4, gets-5}
+
+-- D's bytes, and D's length in bytes
+D-bytes : length (designBytes D) ≡ 19
+unfolding D padded numberBytes needBytes rowBytes designBytes
+D-bytes = refl
+
+-- two answers with other numbers are not the same
+other-number : {A : Type 0} {a b : Answer} → a ≡ b → (a .number ≡ b .number → ⊥) → A
+other-number e o = absurd (o (ap (λ x. x .number) e))
+
+-- the table of a reading decides its answer
+read-refused : {s : List ℕ} {d : Design} {a : Answer} {e : Refusal} → designAt s ≡ refuse e → Demand1.ReadNumbered s d a → a ≡ refusal e
+read-refused q (Demand1.done p _) = let z : _≡_ {A = ℕ} 0 1 = cc in absurd (omega arith)
+read-refused {e = e} q (Demand1.unfinished {i = i} p) = let x : Unfinished i ≡ e = cc in rw (← x)
+read-refused {e = e} q (Demand1.malformed {i = i} p) = let x : Malformed i ≡ e = cc in rw (← x)
+read-refused {e = e} q (Demand1.wrong-form {i = i} p) = let x : WrongForm i ≡ e = cc in rw (← x)
+read-refused {e = e} q (Demand1.breaks-limits {i = i} p) = let x : BreaksLimits i ≡ e = cc in rw (← x)
+read-refused {e = e} q (Demand1.bad-token {i = i} p) = let x : BadToken i ≡ e = cc in rw (← x)
+read-refused {e = e} q (Demand1.extra-bytes {i = i} p) = let x : ExtraBytes i ≡ e = cc in rw (← x)
+
+read-accepted : {s : List ℕ} {d e : Design} {n : ℕ} {a : Answer} → designAt s ≡ took e n → Demand1.ReadNumbered s d a → (a ≡ plainly 0 0) × (d ≡ e)
+read-accepted {d = d} {e = e} q (Demand1.done p _) = let x : d ≡ e = cc in (refl, x)
+read-accepted q (Demand1.unfinished p) = let z : _≡_ {A = ℕ} 0 1 = cc in absurd (omega arith)
+read-accepted q (Demand1.malformed p) = let z : _≡_ {A = ℕ} 0 1 = cc in absurd (omega arith)
+read-accepted q (Demand1.wrong-form p) = let z : _≡_ {A = ℕ} 0 1 = cc in absurd (omega arith)
+read-accepted q (Demand1.breaks-limits p) = let z : _≡_ {A = ℕ} 0 1 = cc in absurd (omega arith)
+read-accepted q (Demand1.bad-token p) = let z : _≡_ {A = ℕ} 0 1 = cc in absurd (omega arith)
+read-accepted q (Demand1.extra-bytes p) = let z : _≡_ {A = ℕ} 0 1 = cc in absurd (omega arith)
+
+-- D's bytes, D's bytes and one more, and none
+reads-D : designAt (bytesEnding (2 ∷ 3 ∷ 0 ∷ [])) ≡ took D 19
+unfolding D padded all stands has joined added inRange lawfulNeed numberAt secondByte thirdByte checkedAt rowAt needOf tokensAt designAt
+reads-D = refl
+
+reads-one-more : (v : ℕ) → designAt (bytesEnding (2 ∷ 3 ∷ 0 ∷ v ∷ [])) ≡ refuse (ExtraBytes 19)
+unfolding all stands has joined added inRange lawfulNeed numberAt secondByte thirdByte checkedAt rowAt needOf tokensAt designAt
+reads-one-more v = refl
+
+reads-nothing : designAt [] ≡ refuse (Unfinished 0)
+unfolding numberAt checkedAt designAt
+reads-nothing = refl
+
+-- work that no listing left: 255 in every byte, where no height of D's is over 6
+pub stranger : List ℕ
+stranger = replicate 450 255
+
+pub no-stairs : AllStairs D (slotsOf D stranger) → ⊥
+unfolding D slot stranger
+no-stairs st =
+    let h = st 0 (corner 0 0) (omega arith) (record { column = omega arith; row = omega arith }) .rows 0 (omega arith) in omega arith
+
+stranger-long : length stranger ≡ 450
+unfolding stranger
+stranger-long = length-replicate {A = ℕ} 450 255
+
+-- module 0 of D in the rows 1 to 3 holds no RAM block
+pub half-not-suited : SuitsOf D 0 (fromRows half-block 0) → ⊥
+unfolding D fromRows columnOf coversBlock heldBetween holds column count total padded
+half-not-suited s = let h = s .rams in omega arith
+
+half-not-lawful : LawfulPlacement D (fromRows half-block) → ⊥
+unfolding D padded stands has joined added standing
+half-not-lawful l = half-not-suited (l .suits 0 refl)
+
+module _ (S : Services) (demand : Demand1.Demand1 S) where
+  -- read: no fault in no bytes, or another, or at another position; a byte after the last token let through; D refused, or read as another
+  -- design; a refusal that hands back a design
+  pub reader-takes-nothing : (r : Handed) → S .read [] r → answer (r .reply) ≡ plainly 1 0
+  reader-takes-nothing r x = read-refused reads-nothing (demand .numbered .read [] r x)
+
+  pub reader-takes-an-extra-byte : (v : ℕ) (r : Handed) → S .read (bytesEnding (2 ∷ 3 ∷ 0 ∷ v ∷ [])) r → answer (r .reply) ≡ plainly 7 19
+  reader-takes-an-extra-byte v r x = read-refused (reads-one-more v) (demand .numbered .read _ r x)
+
+  pub reader-refuses-all : (r : Handed) → S .read (bytesEnding (2 ∷ 3 ∷ 0 ∷ [])) r → (answer (r .reply) ≡ plainly 0 0) × (r .design ≡ D)
+  reader-refuses-all r x = read-accepted reads-D (demand .numbered .read _ r x)
+
+  pub reader-hands-back-a-design : (r : Handed) → S .read [] r → r .design ≡ D → ⊥
+  unfolding D zeros
+  reader-hands-back-a-design r x e =
+      let a = reader-takes-nothing r x in let q = demand .leaving .read [] r x (λ n. let z = ap (λ b. b .number) a in omega arith) in
+      let z = ap (λ d. widthOf d) (sym e ∙ q) in omega arith
+
+  -- write: an unlawful design written, D refused with room, or written in part where it does not fit
+  pub writer-takes-a-tall-block : (before after : List ℕ) (r : Written) → S .write tall before r after → writtenAnswer r ≡ plainly 4 0
+  writer-takes-a-tall-block before after r x = gets-4 tall-breaks-limits (demand .numbered .write tall before after r x)
+
+  pub writer-takes-a-module-twice : (before after : List ℕ) (r : Written) → S .write twice before r after → writtenAnswer r ≡ plainly 5 0
+  writer-takes-a-module-twice before after r x = gets-5 twice-bad-token (demand .numbered .write twice before after r x)
+
+  pub writer-refuses-all : (before after : List ℕ) (r : Written) → 19 ≤ length before → S .write D before r after → writtenAnswer r ≡ plainly 0 19
+  writer-refuses-all before after r h x = go (of-lawful D-lawful (demand .numbered .write D before after r x))
+    where
+      go : {a : Answer} → Demand1.WriteNumbered D before a → a ≡ plainly 0 19
+      go (Demand1.short l) = let e = D-bytes in absurd (omega arith)
+      go (Demand1.done _) = rw D-bytes
+
+  pub writer-fills-what-there-is : (before after : List ℕ) (r : Written) → length before < 19 → S .write D before r after
+      → (writtenAnswer r ≡ plainly 8 0) × (after ≡ before)
+  writer-fills-what-there-is before after r h x =
+      let a = go (of-lawful D-lawful (demand .numbered .write D before after r x)) in
+      (a, demand .leaving .write D before after r x (λ n. let z = ap (λ b. b .number) a in omega arith))
+    where
+      go : {a : Answer} → Demand1.WriteNumbered D before a → a ≡ plainly 8 0
+      go (Demand1.short _) = refl
+      go (Demand1.done l) = let e = D-bytes in absurd (omega arith)
+
+  -- list: D refused with room; work cleared before its length is looked at
+  pub lister-refuses-all : (before after : List ℕ) (r : Reply) → 450 ≤ length before → S .list D before r after → answer r ≡ plainly 0 0
+  unfolding D
+  lister-refuses-all before after r h x = go (of-lawful D-lawful (demand .numbered .list D before after r x))
+    where
+      go : {a : Answer} → Demand1.ListNumbered D before a → a ≡ plainly 0 0
+      go (Demand1.short l) = absurd (omega arith)
+      go (Demand1.done _) = refl
+
+  pub lister-takes-a-tall-block : (before after : List ℕ) (r : Reply) → S .list tall before r after → (answer r ≡ plainly 4 0) × (after ≡ before)
+  lister-takes-a-tall-block before after r x =
+      let a = gets-4 tall-breaks-limits (demand .numbered .list tall before after r x) in
+      (a, demand .leaving .list tall before after r x (λ n. let z = ap (λ b. b .number) a in omega arith))
+
+  pub lister-clears-first : (r : Reply) → S .list D (1 ∷ []) r (0 ∷ []) → ⊥
+  unfolding D
+  lister-clears-first r x =
+      let a = go (of-lawful D-lawful (demand .numbered .list D (1 ∷ []) (0 ∷ []) r x)) in
+      let q = demand .leaving .list D (1 ∷ []) (0 ∷ []) r x (λ n. let z = ap (λ b. b .number) a in omega arith) in
+      let z = ap (λ l. getD l 0 0) q in omega arith
+    where
+      go : {a : Answer} → Demand1.ListNumbered D (1 ∷ []) a → a ≡ plainly 8 0
+      go (Demand1.short _) = refl
+      go (Demand1.done l) = absurd (omega arith)
+
+  -- plan: rows too few for D let through, or written to; an unlawful design planned; a design without a placement whose lists are not left, or
+  -- whose rows are not
+  pub planner-takes-few-rows : (before after rows' : List ℕ) (r : Planned) → S .plan D before [] r after rows'
+      → (plannedAnswer r ≡ plainly 8 0) × (after ≡ before) × (rows' ≡ [])
+  unfolding D
+  planner-takes-few-rows before after rows' r x =
+      let a = go (of-lawful D-lawful (demand .numbered .plan D before [] after rows' r x)) in
+      let q = demand .leaving .plan D before [] after rows' r x (λ n. let z = ap (λ b. b .number) a in omega arith) in
+      (a, q .work-stands (λ n. let z = ap (λ b. b .number) a in omega arith), q .rows-stand)
+    where
+      go : {a : Answer} → Demand1.PlanNumbered D before [] a → a ≡ plainly 8 0
+      go (Demand1.short _) = refl
+      go (Demand1.none e) = let h = e .places in absurd (omega arith)
+      go (Demand1.done e) = let h = e .places in absurd (omega arith)
+
+  pub planner-takes-a-tall-block : (before rows after rows' : List ℕ) (r : Planned) → S .plan tall before rows r after rows' → plannedAnswer r ≡ plainly 4 0
+  planner-takes-a-tall-block before rows after rows' r x = gets-4 tall-breaks-limits (demand .numbered .plan tall before rows after rows' r x)
+
+  pub planner-clears-rows : (before rows after rows' : List ℕ) (r : Planned) → S .plan starved before rows r after rows' → plannedAnswer r .number ≡ 10
+      → (rows' ≡ rows → ⊥) → ⊥
+  planner-clears-rows before rows after rows' r x e f =
+      f (demand .leaving .plan starved before rows after rows' r x (λ n. absurd (omega arith)) .rows-stand)
+
+  pub planner-lists-nothing : (before rows after rows' : List ℕ) (r : Planned) → S .plan starved before rows r after rows' → plannedAnswer r .number ≡ 10
+      → (OwnLists starved (slotsOf starved after) → ⊥) → ⊥
+  planner-lists-nothing before rows after rows' r x e f =
+      f (demand .leaving .plan starved before rows after rows' r x (λ n. absurd (omega arith)) .work-listed e .1)
+
+  -- place: a stranger's bytes not tested, or rows written all the same
+  pub placer-skips-the-stair-test : (rows rows' : List ℕ) (r : Planned) → 8 ≤ length rows → S .place D stranger rows r rows'
+      → (plannedAnswer r ≡ plainly 9 0) × (rows' ≡ rows)
+  unfolding D
+  placer-skips-the-stair-test rows rows' r h x =
+      let a = go (of-lawful D-lawful (demand .numbered .place D stranger rows rows' r x)) in
+      (a, demand .leaving .place D stranger rows rows' r x (λ n. let z = ap (λ b. b .number) a in omega arith))
+    where
+      go : {a : Answer} → Demand1.PlaceNumbered D stranger rows rows' a → a ≡ plainly 9 0
+      go (Demand1.short (inl l)) = let e = stranger-long in absurd (omega arith)
+      go (Demand1.short (inr l)) = absurd (omega arith)
+      go (Demand1.stranger _ _) = refl
+      go (Demand1.none _ st _) = absurd (no-stairs st)
+      go (Demand1.lost _ st _ _) = absurd (no-stairs st)
+      go (Demand1.done _ st _) = absurd (no-stairs st)
+
+  -- a placer that counts a block covered in part: over whatever lists, module 0 in the rows 1 to 3 is no floorplan of D
+  pub placer-counts-half : (work rows : List ℕ) (r : Planned) → S .place D work rows r half-block → plannedAnswer r .number ≡ 0 → ⊥
+  placer-counts-half work rows r x e = go (of-lawful D-lawful (demand .numbered .place D work rows half-block r x)) e
+    where
+      go : {a : Answer} → Demand1.PlaceNumbered D work rows half-block a → a .number ≡ 0 → ⊥
+      go (Demand1.short _) e = omega arith
+      go (Demand1.stranger _ _) e = omega arith
+      go (Demand1.none _ _ _) e = omega arith
+      go (Demand1.lost _ _ _ _) e = omega arith
+      go (Demand1.done _ _ l) e = half-not-lawful l
+
+  -- edit: the all-zero need granted, or the design changed with the refusal; a stranger's bytes not tested; too few bytes let through
+  pub edit-grants-zero-need : (work after : List ℕ) (r : Handed) → S .edit D (Change 0 (need 0 0 0)) work r after
+      → (answer (r .reply) ≡ plainly 11 0) × (r .design ≡ D) × (after ≡ work)
+  edit-grants-zero-need work after r x =
+      let a = go (of-lawful D-lawful (demand .numbered .edit D _ work after r x)) in
+      let (b, c) = demand .leaving .edit D _ work after r x (λ n. let z = ap (λ b. b .number) a in omega arith) in (a, b, c)
+    where
+      go : {a : Answer} → Demand1.EditNumbered D (Change 0 (need 0 0 0)) work a → a ≡ plainly 11 0
+      go (Demand1.unnamed _) = refl
+      go (Demand1.short n _) = absurd (names-no-zero-need n)
+      go (Demand1.stranger n _ _) = absurd (names-no-zero-need n)
+      go (Demand1.done n _ _) = absurd (names-no-zero-need n)
+
+  pub edit-skips-the-stair-test : (after : List ℕ) (r : Handed) → S .edit D (Turn 2) stranger r after
+      → (answer (r .reply) ≡ plainly 9 0) × (r .design ≡ D) × (after ≡ stranger)
+  unfolding D
+  edit-skips-the-stair-test after r x =
+      let a = go (of-lawful D-lawful (demand .numbered .edit D _ stranger after r x)) in
+      let (b, c) = demand .leaving .edit D _ stranger after r x (λ n. let z = ap (λ b. b .number) a in omega arith) in (a, b, c)
+    where
+      go : {a : Answer} → Demand1.EditNumbered D (Turn 2) stranger a → a ≡ plainly 9 0
+      go (Demand1.unnamed f) = absurd (f names-turned)
+      go (Demand1.short _ l) = let e = stranger-long in absurd (omega arith)
+      go (Demand1.stranger _ _ _) = refl
+      go (Demand1.done _ _ st) = absurd (no-stairs st)
+
+  pub edit-takes-few-bytes : (after : List ℕ) (r : Handed) → S .edit D (Turn 2) [] r after → answer (r .reply) ≡ plainly 8 0
+  unfolding D
+  edit-takes-few-bytes after r x = go (of-lawful D-lawful (demand .numbered .edit D _ [] after r x))
+    where
+      go : {a : Answer} → Demand1.EditNumbered D (Turn 2) [] a → a ≡ plainly 8 0
+      go (Demand1.unnamed f) = absurd (f names-turned)
+      go (Demand1.short _ _) = refl
+      go (Demand1.stranger _ l _) = absurd (omega arith)
+      go (Demand1.done _ l _) = absurd (omega arith)
+
+  -- check: a module over the chip's side passed, or another named; a block covered in part counted; too few rows let through
+  pub checker-takes-few-rows : (r : Reply) → S .check D [] r → answer r ≡ plainly 8 0
+  unfolding D
+  checker-takes-few-rows r x = go (of-lawful D-lawful (demand .numbered .check D [] r x))
+    where
+      go : {a : Answer} → Demand1.CheckNumbered D [] a → a ≡ plainly 8 0
+      go (Demand1.short _) = refl
+      go (Demand1.off-the-chip l _) = absurd (omega arith)
+      go (Demand1.short-of-need l _) = absurd (omega arith)
+      go (Demand1.cut-not-kept l _) = absurd (omega arith)
+      go (Demand1.done l _) = absurd (omega arith)
+
+  pub checker-passes-all : (r : Reply) → S .check D over-the-side r → answer r .number ≡ 0 → ⊥
+  unfolding D padded fromRows stands has joined added standing
+  checker-passes-all r x e = go (of-lawful D-lawful (demand .numbered .check D over-the-side r x)) e
+    where
+      go : {a : Answer} → Demand1.CheckNumbered D over-the-side a → a .number ≡ 0 → ⊥
+      go (Demand1.short _) e = omega arith
+      go (Demand1.off-the-chip _ _) e = omega arith
+      go (Demand1.short-of-need _ _) e = omega arith
+      go (Demand1.cut-not-kept _ _) e = omega arith
+      go (Demand1.done _ l) e = let h = l .onChip 1 refl .columns in omega arith
+
+  -- module 0 of those rows is on the chip, so it is not the one to name; module 0 of the half block is short, so the next one is not
+  pub checker-names-another : (r : Reply) → S .check D over-the-side r → answer r ≡ plainly 12 0 → ⊥
+  unfolding D fromRows
+  checker-names-another r x e = go (of-lawful D-lawful (demand .numbered .check D over-the-side r x)) e
+    where
+      on : OnChip 5 6 (fromRows over-the-side 0)
+      on = record { wide = omega arith; high = omega arith; columns = omega arith; rows = omega arith }
+
+      go : {a : Answer} → Demand1.CheckNumbered D over-the-side a → a ≡ plainly 12 0 → ⊥
+      go (Demand1.short _) e = let z = ap (λ b. b .number) e in omega arith
+      go (Demand1.off-the-chip {k = k} _ f) e = let z : k ≡ 0 = ap (λ b. b .value) e in (rw z at f) .fault on
+      go (Demand1.short-of-need _ _) e = let z = ap (λ b. b .number) e in omega arith
+      go (Demand1.cut-not-kept _ _) e = let z = ap (λ b. b .number) e in omega arith
+      go (Demand1.done _ _) e = let z = ap (λ b. b .number) e in omega arith
+
+  pub checker-passes-the-first-short : (r : Reply) → S .check D half-block r → answer r ≡ plainly 13 1 → ⊥
+  checker-passes-the-first-short r x e = go (of-lawful D-lawful (demand .numbered .check D half-block r x)) e
+    where
+      go : {a : Answer} → Demand1.CheckNumbered D half-block a → a ≡ plainly 13 1 → ⊥
+      go (Demand1.short _) e = let z = ap (λ b. b .number) e in omega arith
+      go (Demand1.off-the-chip _ _) e = let z = ap (λ b. b .number) e in omega arith
+      go (Demand1.short-of-need {k = k} _ f) e = let z : k ≡ 1 = ap (λ b. b .value) e in half-not-suited ((rw z at f) .before 0 (omega arith) .suits)
+      go (Demand1.cut-not-kept _ _) e = let z = ap (λ b. b .number) e in omega arith
+      go (Demand1.done _ _) e = let z = ap (λ b. b .number) e in omega arith
+
+  -- the cut of D stands at position 2, and no other token is a cut
+  pub checker-names-a-leaf : (rows : List ℕ) (r : Reply) → S .check D rows r → answer r ≡ plainly 14 0 → ⊥
+  unfolding D padded stands has joined added standing
+  checker-names-a-leaf rows r x e = go (of-lawful D-lawful (demand .numbered .check D rows r x)) e
+    where
+      go : {a : Answer} → Demand1.CheckNumbered D rows a → a ≡ plainly 14 0 → ⊥
+      go (Demand1.short _) e = let z = ap (λ b. b .number) e in omega arith
+      go (Demand1.off-the-chip _ _) e = let z = ap (λ b. b .number) e in omega arith
+      go (Demand1.short-of-need _ _) e = let z = ap (λ b. b .number) e in omega arith
+      go (Demand1.cut-not-kept {t = t} _ f) e = let z : t ≡ 0 = ap (λ b. b .value) e in (rw z at f) .fault tt
+      go (Demand1.done _ _) e = let z = ap (λ b. b .number) e in omega arith

@@ -1,0 +1,6 @@
+-- The three demands (00), in the user's words and order, as statements about any services; proofs/ shows them of all that keep their contracts.
+pub mod Services
+pub mod Demand1
+pub mod Demand2
+pub mod Demand3
+pub mod Same
