@@ -5,6 +5,16 @@ use std::{env, fs};
 
 #[link(name = "cellweaver_c", kind = "static")]
 extern "C" {
+    fn cellweaver_sizes(
+        bytes: *const u8,
+        bytes_length: usize,
+        width: *mut usize,
+        height: *mut usize,
+        modules: *mut usize,
+        work: *mut usize,
+        rows: *mut usize,
+        value: *mut usize,
+    ) -> usize;
     fn cellweaver_plan(
         bytes: *const u8,
         bytes_length: usize,
@@ -18,13 +28,33 @@ extern "C" {
     ) -> usize;
 }
 
-/// What plan answers: the box, or a refusal's number and what stands beside it.
-enum Planned {
-    Box(usize, usize),
-    Refused(usize, usize),
+/// A refusal: its number, and what stands beside it.
+struct Refused(usize, usize);
+
+/// The bytes that the lists of the design want, and its rows.
+fn sizes(bytes: &[u8]) -> Result<(usize, usize), Refused> {
+    let (mut width, mut height, mut modules, mut work, mut rows, mut value) = (0, 0, 0, 0, 0, 0);
+    // The pointer comes with its own length, and each place is lent to nobody else. That is all that is asked.
+    let number = unsafe {
+        cellweaver_sizes(
+            bytes.as_ptr(),
+            bytes.len(),
+            &mut width,
+            &mut height,
+            &mut modules,
+            &mut work,
+            &mut rows,
+            &mut value,
+        )
+    };
+    match number {
+        0 => Ok((work, rows)),
+        _ => Err(Refused(number, value)),
+    }
 }
 
-fn plan(bytes: &[u8], work: &mut [u8], rows: &mut [u8]) -> Planned {
+/// The box's width and height.
+fn plan(bytes: &[u8], work: &mut [u8], rows: &mut [u8]) -> Result<(usize, usize), Refused> {
     let (mut width, mut height, mut value) = (0, 0, 0);
     // Each pointer comes with its own length, and what is lent to be written is lent to nobody else. That is all that is asked.
     let number = unsafe {
@@ -41,33 +71,36 @@ fn plan(bytes: &[u8], work: &mut [u8], rows: &mut [u8]) -> Planned {
         )
     };
     match number {
-        0 => Planned::Box(width, height),
-        _ => Planned::Refused(number, value),
+        0 => Ok((width, height)),
+        _ => Err(Refused(number, value)),
     }
 }
 
-/// The most bytes that the lists of a lawful design take, and its rows.
-const MOST_WORK: usize = 31 * 64 * 64 * 64;
-const MOST_ROWS: usize = 4 * 16;
+/// The design's rows as lines, over just the bytes that it wants.
+fn planned(bytes: &[u8]) -> Result<String, Refused> {
+    let (work, rows) = sizes(bytes)?;
+    let (mut work, mut rows) = (vec![0; work], vec![0; rows]);
+    let (width, height) = plan(bytes, &mut work, &mut rows)?;
+    let mut text = format!("plan 0 {width} {height}\n");
+    for (k, row) in rows.chunks(4).enumerate() {
+        text += &format!("{k} {} {} {} {}\n", row[0], row[1], row[2], row[3]);
+    }
+    Ok(text)
+}
 
 fn main() -> ExitCode {
     let Some(bytes) = env::args().nth(1).and_then(|name| fs::read(name).ok()) else {
         eprintln!("usage: plan FILE");
         return ExitCode::from(2);
     };
-    let (mut work, mut rows) = (vec![0; MOST_WORK], [0; MOST_ROWS]);
-    match plan(&bytes, &mut work, &mut rows) {
-        Planned::Refused(number, value) => {
+    match planned(&bytes) {
+        Ok(text) => {
+            print!("{text}");
+            ExitCode::SUCCESS
+        }
+        Err(Refused(number, value)) => {
             println!("plan {number} {value}");
             ExitCode::from(1)
-        }
-        Planned::Box(width, height) => {
-            println!("plan 0 {width} {height}");
-            let modules = usize::from(bytes[4 + usize::from(bytes[1])]);
-            for (k, row) in rows.chunks(4).take(modules).enumerate() {
-                println!("{k} {} {} {} {}", row[0], row[1], row[2], row[3]);
-            }
-            ExitCode::SUCCESS
         }
     }
 }

@@ -121,6 +121,17 @@ impl Caller {
         self.ask(b'R', "read", |_, _| plainly(DONE, 0))
     }
 
+    /// Two answers: W and H, then m and the bytes that lists and rows take; zeros with a refusal.
+    fn sizes(&mut self) -> io::Result<()> {
+        self.ask(b'S', "sizes", |design, _| [DONE.into(), 0, design.chip.width.0, design.chip.height.0])?;
+        let reading = bytes::read(&self.lent.bytes);
+        let wants = match reading.number {
+            DONE => [reading.design.modules, reading.design.work_needed(), reading.design.rows_needed()],
+            _ => [0; 3],
+        };
+        self.expect("wants", [reading.number.into(), wants[0], wants[1], wants[2]])
+    }
+
     fn write(&mut self) -> io::Result<Answer> {
         self.ask(b'W', "write", |design, lent| {
             let reply = bytes::write(design, &mut lent.out);
@@ -216,6 +227,7 @@ fn lend_for(caller: &mut Caller, chance: &mut Chance, design: &Design) -> io::Re
 fn whole(caller: &mut Caller, chance: &mut Chance, design: &Design) -> io::Result<()> {
     lend_for(caller, chance, design)?;
     caller.read()?;
+    caller.sizes()?;
     let out = near(chance, caller.lent.bytes.len());
     caller.lend(b'o', some_bytes(chance, out))?;
     caller.write()?;
@@ -246,6 +258,7 @@ fn damaged(caller: &mut Caller, chance: &mut Chance, design: &Design) -> io::Res
     }
     caller.lend(b'b', bytes)?;
     caller.read()?;
+    caller.sizes()?;
     let wanted = random::random_edit(chance, design);
     match chance.below(6) {
         0 => caller.write(),

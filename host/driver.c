@@ -96,11 +96,16 @@ static void edited(const char *call, size_t reply, size_t value)
 
 static void call(int request)
 {
-    size_t width = 99, height = 99, value = 99, reply;
+    size_t width = 99, height = 99, value = 99, modules = 99, lists = 99, places = 99, reply;
     switch (request) {
     case 'R':
         reply = cellweaver_read(bytes.at, bytes.length, &value);
         answer("read", reply, value, 0, 0);
+        break;
+    case 'S':
+        reply = cellweaver_sizes(bytes.at, bytes.length, &width, &height, &modules, &lists, &places, &value);
+        answer("sizes", reply, value, width, height);
+        answer("wants", reply, modules, lists, places);
         break;
     case 'W':
         reply = cellweaver_write(bytes.at, bytes.length, out.at, out.length, &value);

@@ -12,8 +12,8 @@
  * length is 0, and places that a function writes overlap nothing else that it is handed. The library allocates nothing, keeps nothing
  * between calls and calls nothing but memcpy and memset, so calls on different buffers may run at the same time.
  *
- * Unless the reply is 0, every lent byte stands as it was; one exception: after cellweaver_plan's 10 work holds the full lists. *value, *width
- * and *height are set by every call.
+ * Unless the reply is 0, every lent byte stands as it was; one exception: after cellweaver_plan's 10 work holds the full lists. A place for
+ * one number, as *value or *width, is set by every call.
  */
 #ifndef CELLWEAVER_H
 #define CELLWEAVER_H
@@ -42,15 +42,18 @@ extern "C" {
 #define CELLWEAVER_SHORT_OF_NEED 13 /* a module whose rectangle does not hold its need */
 #define CELLWEAVER_CUT_NOT_KEPT 14
 
-/* The most bytes that a lawful design takes, its rows, and its lists. Of a design that was read, W is bytes[1], H is bytes[2] and m is
-   bytes[4 + W], one byte each; its rows take 4 m bytes and its lists CELLWEAVER_WORK(W, H, m). */
+/* The most bytes that a lawful design takes, its rows, and its lists. What one design wants, cellweaver_sizes says. */
 #define CELLWEAVER_MOST_BYTES 244
 #define CELLWEAVER_MOST_ROWS 64
 #define CELLWEAVER_MOST_WORK 8126464
-#define CELLWEAVER_WORK(w, h, m) ((2 * (size_t)(m) - 1) * (size_t)(h) * (size_t)(w) * (size_t)(w))
 
 /* Reads a design. 0, or 1 to 7 with the position. */
 size_t cellweaver_read(const uint8_t *bytes, size_t bytes_length, size_t *value);
+
+/* Reads a design and says its sizes: the columns W in *width, the rows H in *height, the modules m, the bytes that its lists take in *work and
+   those that its rows take in *rows; zeros unless the reply is 0. 0, or 1 to 7 with the position. */
+size_t cellweaver_sizes(const uint8_t *bytes, size_t bytes_length, size_t *width, size_t *height, size_t *modules, size_t *work,
+                        size_t *rows, size_t *value);
 
 /* Writes the design to `out`, with the count in *value; bytes past the count stay. Bytes that are read are written the same. 0, 8. */
 size_t cellweaver_write(const uint8_t *bytes, size_t bytes_length, uint8_t *out, size_t out_length, size_t *value);

@@ -215,6 +215,34 @@ fn edit(asked: Asked, held: Held, work: &mut [u8], out: &mut [u8]) -> Served
     answered(with_design(held, answer.design), answer.length)
 }
 
+// `plan`: plans the held design, in the work and the rows that are lent.
+fn plan(held: Held, work: &mut [u8], rows: &mut [u8], out: &mut [u8]) -> Served
+    requires { ⌜ Lent held (now work) (now rows) ⌝ }
+    ensures { λ r. ⌜ Keeps held (r .held) × (r .length ≤ length (now (out .exit))) ⌝ }
+{
+    let design = held.design;
+    let w = held.work;
+    let r = held.rows;
+    answered(
+        held,
+        answers::plan(design, &mut work[0..w], &mut rows[0..r], out),
+    )
+}
+
+// `place`: places the held design from the work that is lent, into the rows that are lent.
+fn place(held: Held, work: &[u8], rows: &mut [u8], out: &mut [u8]) -> Served
+    requires { ⌜ Lent held (now work) (now rows) ⌝ }
+    ensures { λ r. ⌜ Keeps held (r .held) × (r .length ≤ length (now (out .exit))) ⌝ }
+{
+    let design = held.design;
+    let w = held.work;
+    let r = held.rows;
+    answered(
+        held,
+        answers::place(design, &work[0..w], &mut rows[0..r], out),
+    )
+}
+
 // What a request comes to that is not answered: it lends, or changes what is held.
 fn served_silently(
     request: Request,
@@ -258,14 +286,8 @@ fn served_as(
         Request::Read => read(line, held, out),
         Request::Write => write(line, held, out),
         Request::List => answered(held, answers::list(design, &mut work[0..w], out)),
-        Request::Plan => answered(
-            held,
-            answers::plan(design, &mut work[0..w], &mut rows[0..r], out),
-        ),
-        Request::Place => answered(
-            held,
-            answers::place(design, &work[0..w], &mut rows[0..r], out),
-        ),
+        Request::Plan => plan(held, work, rows, out),
+        Request::Place => place(held, work, rows, out),
         Request::Need => edit(need_in(line), held, work, out),
         Request::Turn => edit(turn_in(line), held, work, out),
         Request::Check => answered(held, answers::check(design, &rows[0..r], out)),

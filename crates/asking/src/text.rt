@@ -162,10 +162,10 @@ fn put_chip(out: &mut [u8], at: usize, design: Design) -> usize
     requires { ⌜ at ≤ length (now out) ⌝ }
     ensures { λ r. ⌜ r ≤ length (now (out .exit)) ⌝ }
 {
-    let next = put_number(out, at, design.width.0);
-    let next = put_number(out, next, design.height.0);
-    let next = put_number(out, next, design.block.0);
-    let kinds = design.kinds;
+    let next = put_number(out, at, design.chip.width.0);
+    let next = put_number(out, next, design.chip.height.0);
+    let next = put_number(out, next, design.chip.block.0);
+    let kinds = design.chip.kinds;
     put_row(out, next, &kinds)
 }
 

@@ -2,6 +2,7 @@
 use crate::words::next_of;
 use crate::words::word;
 use check::same;
+use rules::Chip;
 use rules::Columns;
 use rules::Design;
 use rules::Edit;
@@ -256,11 +257,14 @@ fn tokens_in(word: &[u8]) -> [u8; MOST_TOKENS] {
 // The design of zeros.
 pub fn no_design() -> Design {
     let values = [0usize; MOST_NUMBERS];
-    Design {
+    let chip = Chip {
         width: Columns(0),
         height: Rows(0),
         block: Rows(0),
         kinds: [0u8; MOST_COLUMNS],
+    };
+    Design {
+        chip,
         modules: 0,
         needs: needs_of(values),
         tokens: [0u8; MOST_TOKENS],
@@ -300,13 +304,16 @@ pub fn design_in(line: &[u8]) -> Said {
         return nothing_said();
     }
     let values = numbers.values;
+    let chip = Chip {
+        width: Columns(w),
+        height: Rows(h),
+        block: Rows(b),
+        kinds: kinds_in(word(line, 4)),
+    };
     Said {
         good: true,
         design: Design {
-            width: Columns(w),
-            height: Rows(h),
-            block: Rows(b),
-            kinds: kinds_in(word(line, 4)),
+            chip,
             modules: m,
             needs: needs_of(values),
             tokens: tokens_in(word(line, 7)),

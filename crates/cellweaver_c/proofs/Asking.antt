@@ -12,7 +12,8 @@ use Rattle.rules.specs.Design.{LawfulDesign}
 use Rattle.rules.specs.Bytes.{Took, took, refuse, designAt}
 use Rattle.rules.specs.Reply.{Answer, plainly, refusal, answer}
 use Rattle.rules.specs.Service.{Reads, handed}
-use Rattle.promises.proofs.Answering.{read-answered}
+use Rattle.rules.proofs.Reading.{read-lawful}
+use Rattle.promises.proofs.Copying.{done-took}
 use Rattle.cellweaver_c.specs.Asked.{Asked}
 
 -- a refusal has no box
@@ -37,7 +38,7 @@ said-refused e s = rw (s .0, s .1) (refused-plainly e)
 
 -- what is read is lawful
 pub reads-lawful : (bytes : List ℕ) {h : Handed} → Reads bytes h → h .reply ≡ Done → LawfulDesign (h .design)
-reads-lawful bytes {h} x q = read-answered bytes h x .passed (ap (λ r. answer r .number) q) .1
+reads-lawful bytes {h} x q = let (n, t) = done-took bytes h x (ap (λ r. answer r .number) q) in read-lawful bytes (h .design) n t .0
 
 module _ {bytes : List ℕ} {h : Handed} (reading : Reads bytes h) {reply : Answer} {Stands : Type 0} {Served : Design → Type 0} where
   pub unread-asked : {e : Refusal} → h .reply ≡ Refused e → reply ≡ refusal e → Stands → Asked bytes reply Stands Served

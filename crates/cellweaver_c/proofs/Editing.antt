@@ -1,5 +1,5 @@
--- The outcomes of an edit whose design goes to lent bytes. Over no work at all an edit is refused with 11 or 8, since every design's lists
--- take some bytes; a granted one leaves a lawful design, for which there is room. Assumes nothing.
+-- The outcomes of an edit whose design goes to lent bytes. Over no work at all an edit is refused with 11 or 8, since every design's
+-- lists take some bytes; a granted one leaves a lawful design, for which there is room. Assumes nothing.
 use mathlib.Core.Path.{_≡_, refl, sym, _∙_, ap}
 use mathlib.Core.Bool.{So}
 use mathlib.Core.List.{List, _++_}
@@ -20,23 +20,25 @@ use Rattle.rules.specs.Reply.{Answer, plainly, refusal, answer, writtenAnswer}
 use Rattle.rules.specs.Service.{workOf, Writes, Edits}
 use Rattle.rules.proofs.Limits.{limits}
 use Rattle.rules.proofs.Changing.{edit-lawful}
-use Rattle.promises.proofs.Answering.{edit-answered}
-use Rattle.cellweaver_c.specs.Asked.{designRoom, PutsBack, EditsInto}
-use Rattle.cellweaver_c.proofs.Longest.{longest}
+use Rattle.promises.proofs.Answering.{edit-granted}
+use Rattle.cellweaver_c.specs.Asked.{PutsBack, EditsInto}
+use Rattle.lending.specs.Lent.{lending}
+use Rattle.writing.specs.Parts.{designRoom}
+use Rattle.writing.proofs.Longest.{longest}
 
 some-work : (d : Design) → LawfulDesign d → 0 < workOf d
 some-work d lawful =
-    let l = limits d lawful in let n : 0 < nodes d = omega arith in mul-pos (mul-pos (mul-pos n (l .high)) (l .wide)) (l .wide)
+    let l = limits d lawful in let n : 0 < nodes d = omega arith in mul-pos (mul-pos (mul-pos n (l .chip .high)) (l .chip .wide)) (l .chip .wide)
 
 -- a granted edit hands a lawful design back
-back-lawful : (d : Design) (e : Edit) → LawfulDesign d → {work after : List ℕ} {h : Handed} → Edits d e work h after → h .reply ≡ Done
-    → LawfulDesign (h .design)
+pub back-lawful : (d : Design) (e : Edit) → LawfulDesign d → {work after : List ℕ} {h : Handed} → Edits d e work h after
+    → h .reply ≡ Done → LawfulDesign (h .design)
 back-lawful d e lawful {work} {after} {h} x r =
-    let p = edit-answered d e work after h x .passed (ap (λ g. answer g .number) r) in rw (p .design) (edit-lawful d lawful e (p .names))
+    let (_, n, q) = edit-granted d e work after h x (ap (λ g. answer g .number) r) in rw q (edit-lawful d lawful e n)
 
 module _ (d : Design) (e : Edit) (lawful : LawfulDesign d) {work out : List ℕ} {reply : Answer} {h : Handed} where
-  pub short-out : {none after : List ℕ} → length none ≡ 0 → Edits d e none h after → reply ≡ answer (h .reply) → length out < designRoom
-      → EditsInto d e work out reply work out
+  pub short-out : {none after : List ℕ} → length none ≡ 0 → Edits d e none h after → reply ≡ answer (h .reply)
+      → length out < designRoom → EditsInto d e (lending work work) (lending out out) reply
   short-out z x q s = record {
     unnamed = λ _ o. (q ∙ ap (λ g. answer (g .reply)) (x .unnamed lawful o .0), refl, refl);
     short = λ _ n. (q ∙ ap (λ g. answer (g .reply)) (x .short lawful n (omega (arith, some-work d lawful)) .0), refl, refl);
@@ -44,17 +46,18 @@ module _ (d : Design) (e : Edit) (lawful : LawfulDesign d) {work out : List ℕ}
   }
 
   module _ (room : designRoom ≤ length out) {after : List ℕ} (x : Edits d e work h after) where
-    enough-room : {out' : List ℕ} → PutsBack h out reply out' → EditsInto d e work out reply after out'
+    enough-room : {out' : List ℕ} → PutsBack h (lending out out') reply → EditsInto d e (lending work after) (lending out out') reply
     enough-room p = record { unnamed = λ s. absurd (omega arith); short = λ s. absurd (omega arith); room = λ _. (h, x, p) }
 
-    pub edit-refused : {f : Refusal} → h .reply ≡ Refused f → reply ≡ refusal f → EditsInto d e work out reply after out
+    pub edit-refused : {f : Refusal} → h .reply ≡ Refused f → reply ≡ refusal f
+        → EditsInto d e (lending work after) (lending out out) reply
     edit-refused {f} r q = enough-room (record {
       done = λ z. let w : _≡_ {A = ℕ} 0 1 = cc in absurd (omega arith);
       refused = λ g z. let w : f ≡ g = cc in (rw (← w) q, refl);
     })
 
     pub edit-put : {w : Written} {out' : List ℕ} → h .reply ≡ Done → Writes (h .design) out w out' → reply ≡ writtenAnswer w
-        → EditsInto d e work out reply after out'
+        → EditsInto d e (lending work after) (lending out out') reply
     edit-put r y q =
         let l = back-lawful d e lawful x r in let (a, b) = y .done l (omega (arith, longest (h .design) l)) in enough-room (record {
           done = λ _. (q ∙ ap writtenAnswer a, b);

@@ -1,5 +1,5 @@
 -- What the proofs share.
 mod Asking
-mod Longest
 mod Editing
 mod Once
+mod Calling

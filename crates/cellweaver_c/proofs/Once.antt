@@ -1,5 +1,5 @@
--- "Prove that two replies allowed by it are equal": for each function, reply and lent bytes. The bytes are one design or one refusal; over
--- a design the service's two answers are equal. Assumes nothing.
+-- "Prove that two replies allowed by it are equal": for each function, reply and lent bytes. The bytes are one design or one refusal;
+-- over a design the service's two answers are equal. Assumes nothing.
 use mathlib.Core.Path.{_≡_, refl, sym, _∙_, ap}
 use mathlib.Core.Logic.{_⊎_, ⊎-elim}
 use mathlib.Core.Bool.{So}
@@ -19,40 +19,47 @@ use Rattle.rules.specs.Bytes.{Took, took, refuse, designAt}
 use Rattle.rules.specs.Reply.{Answer, refusal, answer, writtenAnswer, plannedAnswer}
 use Rattle.rules.proofs.Searching.{know}
 use Rattle.promises.proofs.Unique.{reads-once, writes-once, lists-once, plans-once, places-once, edits-once, checks-once}
-use Rattle.cellweaver_c.specs.Asked.{Asked, AskedRead, AskedWrite, AskedList, AskedPlan, AskedPlace, AskedCheck, AskedEdit, designRoom, PutsBack, EditsInto}
+use Rattle.lending.specs.Lent.{lending}
+use Rattle.writing.specs.Parts.{designRoom}
+use Rattle.cellweaver_c.specs.Asked.{Asked, Sizes, AskedRead, AskedSizes, AskedWrite, AskedList, AskedPlan}
+use Rattle.cellweaver_c.specs.Asked.{AskedPlace, AskedCheck, AskedEdit, PutsBack, EditsInto}
 
 -- two of the same are the same
 both : {A B : Type 0} {a b c : A} {x y z : B} → (a ≡ c) × (x ≡ z) → (b ≡ c) × (y ≡ z) → (a ≡ b) × (x ≡ y)
 both p q = (p .0 ∙ sym (q .0), p .1 ∙ sym (q .1))
 
-all-three : {A B C : Type 0} {a b c : A} {x y z : B} {u v w : C} → (a ≡ c) × (x ≡ z) × (u ≡ w) → (b ≡ c) × (y ≡ z) × (v ≡ w)
-    → (a ≡ b) × (x ≡ y) × (u ≡ v)
+all-three : {A B C : Type 0} {a b c : A} {x y z : B} {u v w : C} → (a ≡ c) × (x ≡ z) × (u ≡ w)
+    → (b ≡ c) × (y ≡ z) × (v ≡ w) → (a ≡ b) × (x ≡ y) × (u ≡ v)
 all-three p q = (p .0 ∙ sym (q .0), p .1 ∙ sym (q .1), p .2 ∙ sym (q .2))
 
 -- an edit: the room in `out` is told first
-put-once : {h : Handed} {out out' out'' : List ℕ} {a a' : Answer} → PutsBack h out a out' → PutsBack h out a' out'' → (a ≡ a') × (out' ≡ out'')
+put-once : {h : Handed} {out out' out'' : List ℕ} {a a' : Answer} → PutsBack h (lending out out') a → PutsBack h (lending out out'') a'
+    → (a ≡ a') × (out' ≡ out'')
 put-once {h} {out} {out'} {out''} {a} {a'} p q = go (h .reply) refl
   where
     go : (r : Reply) → h .reply ≡ r → (a ≡ a') × (out' ≡ out'')
     go Done e = both (p .done e) (q .done e)
     go (Refused f) e = both (p .refused f e) (q .refused f e)
 
-edit-once : (d : Design) (e : Edit) (before out : List ℕ) {a a' : Answer} {after after' out' out'' : List ℕ} → EditsInto d e before out a after out'
-    → EditsInto d e before out a' after' out'' → (a ≡ a') × (after ≡ after') × (out' ≡ out'')
+edit-once : (d : Design) (e : Edit) (before out : List ℕ) {a a' : Answer} {after after' out' out'' : List ℕ}
+    → EditsInto d e (lending before after) (lending out out') a → EditsInto d e (lending before after') (lending out out'') a'
+    → (a ≡ a') × (after ≡ after') × (out' ≡ out'')
 edit-once d e before out {a} {a'} {after} {after'} {out'} {out''} x y = go (decLe designRoom (length out)) (know (namesPlace d e))
   where
-    go : Dec (designRoom ≤ length out) → So (namesPlace d e) ⊎ (So (namesPlace d e) → ⊥) → (a ≡ a') × (after ≡ after') × (out' ≡ out'')
+    go : Dec (designRoom ≤ length out) → So (namesPlace d e) ⊎ (So (namesPlace d e) → ⊥)
+        → (a ≡ a') × (after ≡ after') × (out' ≡ out'')
     go (yes room) _ =
-        let (h, s, p) = x .room room in let (h', s', p') = y .room room in let (i, j) = edits-once d e before after after' h h' s s' in
-        let (k, l) = put-once p (rw (← i) at p') in (k, j, l)
-    go (no room) z = let short : length out < designRoom = omega arith in
+        let (h, s, p) = x .room room in let (h', s', p') = y .room room in
+        let (i, j) = edits-once d e before after after' h h' s s' in let (k, l) = put-once p (rw (← i) at p') in (k, j, l)
+    go (no room) z =
+        let short : length out < designRoom = omega arith in
         ⊎-elim (λ n. all-three (x .short short n) (y .short short n)) (λ n. all-three (x .unnamed short n) (y .unnamed short n)) z
 
 module _ (bytes : List ℕ) where
   -- the bytes are refused, or a design
-  once : {Same : Type 0} {a a' : Answer} {Stands Stands' : Type 0} {Served Served' : Design → Type 0}
-      → ((e : Refusal) → (a ≡ refusal e) × Stands → (a' ≡ refusal e) × Stands' → Same) → ((d : Design) → Served d → Served' d → Same)
-      → Asked bytes a Stands Served → Asked bytes a' Stands' Served' → Same
+  once : {Same : Type 0} {a a' : Answer} {Standing Standing' : Type 0} {Served Served' : Design → Type 0}
+      → ((e : Refusal) → (a ≡ refusal e) × Standing → (a' ≡ refusal e) × Standing' → Same)
+      → ((d : Design) → Served d → Served' d → Same) → Asked bytes a Standing Served → Asked bytes a' Standing' Served' → Same
   once {Same} f g x y = go (designAt bytes) refl
     where
       go : (t : Took Design) → designAt bytes ≡ t → Same
@@ -63,28 +70,39 @@ module _ (bytes : List ℕ) where
     pub read-once : AskedRead bytes a → AskedRead bytes a' → a ≡ a'
     read-once x y = x .said ∙ ap (λ h. answer (h .reply)) (reads-once bytes (x .r) (y .r) (x .served) (y .served)) ∙ sym (y .said)
 
-    pub write-once : (before after after' : List ℕ) → AskedWrite bytes before a after → AskedWrite bytes before a' after' → (a ≡ a') × (after ≡ after')
+    pub sizes-once : (s s' : Sizes) → AskedSizes bytes s a → AskedSizes bytes s' a' → (a ≡ a') × (s ≡ s')
+    sizes-once s s' = once (λ _. both) (λ _. both)
+
+    pub write-once : (before after after' : List ℕ) → AskedWrite bytes (lending before after) a
+        → AskedWrite bytes (lending before after') a' → (a ≡ a') × (after ≡ after')
     write-once before after after' = once (λ _. both) λ d x y.
-        let (p, q) = writes-once d before after after' (x .r) (y .r) (x .served) (y .served) in (x .said ∙ ap writtenAnswer p ∙ sym (y .said), q)
+        let (p, q) = writes-once d before after after' (x .r) (y .r) (x .served) (y .served) in
+        (x .said ∙ ap writtenAnswer p ∙ sym (y .said), q)
 
-    pub list-once : (before after after' : List ℕ) → AskedList bytes before a after → AskedList bytes before a' after' → (a ≡ a') × (after ≡ after')
+    pub list-once : (before after after' : List ℕ) → AskedList bytes (lending before after) a
+        → AskedList bytes (lending before after') a' → (a ≡ a') × (after ≡ after')
     list-once before after after' = once (λ _. both) λ d x y.
-        let (p, q) = lists-once d before after after' (x .r) (y .r) (x .served) (y .served) in (x .said ∙ ap answer p ∙ sym (y .said), q)
+        let (p, q) = lists-once d before after after' (x .r) (y .r) (x .served) (y .served) in
+        (x .said ∙ ap answer p ∙ sym (y .said), q)
 
-    pub plan-once : (before rows after after' rows' rows'' : List ℕ) → AskedPlan bytes before rows a after rows' → AskedPlan bytes before rows a' after' rows''
-        → (a ≡ a') × (after ≡ after') × (rows' ≡ rows'')
-    plan-once before rows after after' rows' rows'' = once (λ _ p q. let (s, t) = both (p .1) (q .1) in (p .0 ∙ sym (q .0), s, t)) λ d x y.
+    pub plan-once : (before rows after after' rows' rows'' : List ℕ) → AskedPlan bytes (lending before after) (lending rows rows') a
+        → AskedPlan bytes (lending before after') (lending rows rows'') a' → (a ≡ a') × (after ≡ after') × (rows' ≡ rows'')
+    plan-once before rows after after' rows' rows'' = once
+        (λ _ p q. let (s, t) = both (p .1) (q .1) in (p .0 ∙ sym (q .0), s, t)) λ d x y.
         let (p, q, s) = plans-once d before rows after after' rows' rows'' (x .r) (y .r) (x .served) (y .served) in
         (x .said ∙ ap plannedAnswer p ∙ sym (y .said), q, s)
 
-    pub place-once : (work rows rows' rows'' : List ℕ) → AskedPlace bytes work rows a rows' → AskedPlace bytes work rows a' rows''
-        → (a ≡ a') × (rows' ≡ rows'')
+    pub place-once : (work rows rows' rows'' : List ℕ) → AskedPlace bytes work (lending rows rows') a
+        → AskedPlace bytes work (lending rows rows'') a' → (a ≡ a') × (rows' ≡ rows'')
     place-once work rows rows' rows'' = once (λ _. both) λ d x y.
-        let (p, q) = places-once d work rows rows' rows'' (x .r) (y .r) (x .served) (y .served) in (x .said ∙ ap plannedAnswer p ∙ sym (y .said), q)
+        let (p, q) = places-once d work rows rows' rows'' (x .r) (y .r) (x .served) (y .served) in
+        (x .said ∙ ap plannedAnswer p ∙ sym (y .said), q)
 
-    pub edit-need-or-turn-once : (e : Edit) (before out after after' out' out'' : List ℕ) → AskedEdit bytes e before out a after out'
-        → AskedEdit bytes e before out a' after' out'' → (a ≡ a') × (after ≡ after') × (out' ≡ out'')
-    edit-need-or-turn-once e before out after after' out' out'' = once (λ _ p q. let (s, t) = both (p .1) (q .1) in (p .0 ∙ sym (q .0), s, t)) λ d. edit-once d e before out
+    pub edit-need-or-turn-once : (e : Edit) (before out after after' out' out'' : List ℕ)
+        → AskedEdit bytes e (lending before after) (lending out out') a → AskedEdit bytes e (lending before after') (lending out out'') a'
+        → (a ≡ a') × (after ≡ after') × (out' ≡ out'')
+    edit-need-or-turn-once e before out after after' out' out'' = once
+        (λ _ p q. let (s, t) = both (p .1) (q .1) in (p .0 ∙ sym (q .0), s, t)) λ d. edit-once d e before out
 
     pub check-once : (rows : List ℕ) → AskedCheck bytes rows a → AskedCheck bytes rows a' → a ≡ a'
     check-once rows = once (λ _ p q. p .0 ∙ sym (q .0)) λ d x y.

@@ -1,12 +1,15 @@
--- The services as C and Rust call them. There a design is always its bytes, so each function reads them first; then it asks the service,
--- whose predicate (`Service.antt` of the rules) says the rest. A reply is its number, returned, and what is put into the caller's places.
+-- The services as C and Rust call them. There a design is always its bytes, so each function reads them first; then it asks the
+-- service, whose predicate (`Service.antt` of the rules) says the rest. A reply is its number, returned, and what is put into the
+-- caller's places.
 use mathlib.Core.Path.{_≡_}
 use mathlib.Core.Bool.{So}
 use mathlib.Core.List.{List, _++_}
 use Prim.Native.Nat.{ℕ, _≤_, _<_}
 use lib.ListN.{length, drop}
+use Rattle.rules.specs.declared.Need.{Need}
 use Rattle.rules.specs.declared.Design.{Design}
 use Rattle.rules.specs.declared.Edit.{Edit}
+use Rattle.rules.specs.declared.Edit.the-variants.{Change}
 use Rattle.rules.specs.declared.Refusal.{Refusal}
 use Rattle.rules.specs.declared.Refusal.the-variants.{TooShort, NoSuchEdit}
 use Rattle.rules.specs.declared.Reply.{Reply}
@@ -18,11 +21,21 @@ use Rattle.rules.specs.Chip.{shape}
 use Rattle.rules.specs.Edit.{namesPlace}
 use Rattle.rules.specs.Bytes.{Took, took, refuse, designBytes, designAt}
 use Rattle.rules.specs.Reply.{Answer, plainly, refusal, answer, writtenAnswer, plannedAnswer}
-use Rattle.rules.specs.Service.{Reads, Writes, Lists, Plans, Places, Edits, Checks}
+use Rattle.rules.specs.Service.{workOf, rowsOf, Reads, Writes, Lists, Plans, Places, Edits, Checks}
+use Rattle.rules.specs.Design.{widthOf, heightOf}
+use Rattle.lending.specs.Lent.{Lent, Stands, Place, put}
+use Rattle.writing.specs.Parts.{designRoom}
 
--- A refused reading is the reply, and every lent byte stands; of a design that was read, the service's part holds.
-pub record Asked (bytes : List ℕ) (reply : Answer) (Stands : Type 0) (Served : Design → Type 0) : Type 0 where
-  pub unread : (e : Refusal) → designAt bytes ≡ refuse e → (reply ≡ refusal e) × Stands
+-- the number returned, with the value, and with the box
+abbrev pub said : ℕ → Place ℕ → Answer
+said n value = plainly n (put value)
+
+abbrev pub boxed : ℕ → Place ℕ → Place ℕ → Place ℕ → Answer
+boxed n value width height = record { number = n; value = put value; box = shape (put width) (put height) }
+
+-- A refused reading is the reply, and everything stands; of a design that was read, the service's part holds.
+pub record Asked (bytes : List ℕ) (reply : Answer) (Standing : Type 0) (Served : Design → Type 0) : Type 0 where
+  pub unread : (e : Refusal) → designAt bytes ≡ refuse e → (reply ≡ refusal e) × Standing
   pub read : (d : Design) (n : ℕ) → designAt bytes ≡ took d n → Served d
 
 -- what the service answers is the reply
@@ -35,28 +48,48 @@ pub record Says {R : Type 0} (answers : R → Answer) (Service : R → Type 0) (
 abbrev pub AskedRead : List ℕ → Answer → Type 0
 AskedRead bytes reply = Says {R = Handed} (λ h. answer (h .reply)) (Reads bytes) reply
 
+-- sizes: of a design that was read W, H, m and the bytes that its lists and its rows take; zeros with a refusal
+pub record Sizes : Type 0 where
+  pub width : ℕ
+  pub height : ℕ
+  pub modules : ℕ
+  pub work : ℕ
+  pub rows : ℕ
+
+-- what the call puts into five places
+abbrev pub sizes : Place ℕ → Place ℕ → Place ℕ → Place ℕ → Place ℕ → Sizes
+sizes w h m work rows = record { width = put w; height = put h; modules = put m; work = put work; rows = put rows }
+
+abbrev pub sizesOf : Design → Sizes
+sizesOf d = record { width = widthOf d; height = heightOf d; modules = d .modules; work = workOf d; rows = rowsOf d }
+
+abbrev pub noSizes : Sizes
+noSizes = record { width = 0; height = 0; modules = 0; work = 0; rows = 0 }
+
+abbrev pub AskedSizes : List ℕ → Sizes → Answer → Type 0
+AskedSizes bytes sizes reply = Asked bytes reply (sizes ≡ noSizes) (λ d. (reply ≡ answer Done) × (sizes ≡ sizesOf d))
+
 -- write: the design's bytes again, in `out`
-abbrev pub AskedWrite : List ℕ → List ℕ → Answer → List ℕ → Type 0
-AskedWrite bytes before reply after =
-    Asked bytes reply (after ≡ before) (λ d. Says {R = Written} writtenAnswer (λ r. Writes d before r after) reply)
+abbrev pub AskedWrite : List ℕ → Lent → Answer → Type 0
+AskedWrite bytes out reply =
+    Asked bytes reply (Stands out) (λ d. Says {R = Written} writtenAnswer (λ r. Writes d (out .came) r (out .left)) reply)
 
 -- list
-abbrev pub AskedList : List ℕ → List ℕ → Answer → List ℕ → Type 0
-AskedList bytes before reply after = Asked bytes reply (after ≡ before) (λ d. Says {R = Reply} answer (λ r. Lists d before r after) reply)
-
--- plan and place reply with the box too
-abbrev pub boxed : ℕ → ℕ → ℕ → ℕ → Answer
-boxed n v w h = record { number = n; value = v; box = shape w h }
+abbrev pub AskedList : List ℕ → Lent → Answer → Type 0
+AskedList bytes work reply =
+    Asked bytes reply (Stands work) (λ d. Says {R = Reply} answer (λ r. Lists d (work .came) r (work .left)) reply)
 
 -- plan
-abbrev pub AskedPlan : List ℕ → List ℕ → List ℕ → Answer → List ℕ → List ℕ → Type 0
-AskedPlan bytes before rows reply after rows' =
-    Asked bytes reply ((after ≡ before) × (rows' ≡ rows)) (λ d. Says {R = Planned} plannedAnswer (λ r. Plans d before rows r after rows') reply)
+abbrev pub AskedPlan : List ℕ → Lent → Lent → Answer → Type 0
+AskedPlan bytes work rows reply =
+    Asked bytes reply (Stands work × Stands rows)
+    (λ d. Says {R = Planned} plannedAnswer (λ r. Plans d (work .came) (rows .came) r (work .left) (rows .left)) reply)
 
 -- place: work is only lent to be read
-abbrev pub AskedPlace : List ℕ → List ℕ → List ℕ → Answer → List ℕ → Type 0
-AskedPlace bytes work rows reply rows' =
-    Asked bytes reply (rows' ≡ rows) (λ d. Says {R = Planned} plannedAnswer (λ r. Places d work rows r rows') reply)
+abbrev pub AskedPlace : List ℕ → List ℕ → Lent → Answer → Type 0
+AskedPlace bytes work rows reply =
+    Asked bytes reply (Stands rows)
+    (λ d. Says {R = Planned} plannedAnswer (λ r. Places d work (rows .came) r (rows .left)) reply)
 
 -- check: rows are only lent to be read
 abbrev pub AskedCheck : List ℕ → List ℕ → Answer → Type 0
@@ -64,18 +97,21 @@ AskedCheck bytes rows reply = Asked bytes reply (Unit {0}) (λ d. Says {R = Repl
 
 -- edit: the bytes of the design that is handed back go to `out`, and their count is the value. Room for the longest design is asked
 -- for where work's room is, after 11.
-abbrev pub designRoom : ℕ
-designRoom = 244
+pub record PutsBack (h : Handed) (out : Lent) (reply : Answer) : Type 0 where
+  pub done : h .reply ≡ Done → let bytes = designBytes (h .design) in
+      (reply ≡ plainly 0 (length bytes)) × (out .left ≡ bytes ++ drop (length bytes) (out .came))
+  pub refused : (e : Refusal) → h .reply ≡ Refused e → (reply ≡ refusal e) × Stands out
 
-pub record PutsBack (h : Handed) (out : List ℕ) (reply : Answer) (out' : List ℕ) : Type 0 where
-  pub done : h .reply ≡ Done → let bytes = designBytes (h .design) in (reply ≡ plainly 0 (length bytes)) × (out' ≡ bytes ++ drop (length bytes) out)
-  pub refused : (e : Refusal) → h .reply ≡ Refused e → (reply ≡ refusal e) × (out' ≡ out)
+pub record EditsInto (d : Design) (e : Edit) (work out : Lent) (reply : Answer) : Type 0 where
+  pub unnamed : length (out .came) < designRoom → (So (namesPlace d e) → ⊥)
+      → (reply ≡ refusal NoSuchEdit) × Stands work × Stands out
+  pub short : length (out .came) < designRoom → So (namesPlace d e) → (reply ≡ refusal TooShort) × Stands work × Stands out
+  pub room : designRoom ≤ length (out .came)
+      → (h : Handed) × Edits d e (work .came) h (work .left) × PutsBack h out reply
 
-pub record EditsInto (d : Design) (e : Edit) (before out : List ℕ) (reply : Answer) (after out' : List ℕ) : Type 0 where
-  pub unnamed : length out < designRoom → (So (namesPlace d e) → ⊥) → (reply ≡ refusal NoSuchEdit) × (after ≡ before) × (out' ≡ out)
-  pub short : length out < designRoom → So (namesPlace d e) → (reply ≡ refusal TooShort) × (after ≡ before) × (out' ≡ out)
-  pub room : designRoom ≤ length out → (h : Handed) × Edits d e before h after × PutsBack h out reply out'
+abbrev pub AskedEdit : List ℕ → Edit → Lent → Lent → Answer → Type 0
+AskedEdit bytes e work out reply = Asked bytes reply (Stands work × Stands out) (λ d. EditsInto d e work out reply)
 
-abbrev pub AskedEdit : List ℕ → Edit → List ℕ → List ℕ → Answer → List ℕ → List ℕ → Type 0
-AskedEdit bytes e before out reply after out' =
-    Asked bytes reply ((after ≡ before) × (out' ≡ out)) (λ d. EditsInto d e before out reply after out')
+-- the change of a need, by its numbers
+abbrev pub newNeed : ℕ → ℕ → ℕ → ℕ → Edit
+newNeed k clbs rams multipliers = Change k (record { clbs = clbs; rams = rams; multipliers = multipliers })

@@ -1,13 +1,14 @@
-// The services for C and Rust: a static library's functions on numbers and byte slices. A design is its bytes, read first by each
-// function. Each returns the reply's number, and puts what stands beside it into places that the caller lends.
+// The services for C and Rust: a static library's functions on numbers and byte slices. A design is its bytes, read
+// first by each function. Each returns the reply's number, and puts what stands beside it into places that are lent.
 use cellweaver::check;
 use cellweaver::edit;
 use cellweaver::list;
 use cellweaver::place;
 use cellweaver::plan;
 use cellweaver::read;
+use cellweaver::work_needed;
 use cellweaver::write;
-use printing::number_of;
+use replies::number_of;
 use rules::Design;
 use rules::Edit;
 use rules::Need;
@@ -15,18 +16,19 @@ use rules::Planned;
 use rules::Refusal;
 use rules::Reply;
 use rules::Written;
+use writing::design_room;
 ghost use mathlib.Core.Path.{_≡_};
-ghost use Rattle.rules.specs.declared.Edit.the-variants.{Change, Turn};
+ghost use Rattle.rules.specs.declared.Edit.the-variants.{Turn};
 ghost use Rattle.rules.specs.Design.{LawfulDesign};
-ghost use Rattle.rules.specs.Reply.{plainly, refusal, answer, writtenAnswer, plannedAnswer};
-ghost use Rattle.cellweaver_c.specs.Asked.{boxed, AskedRead, AskedWrite, AskedList, AskedPlan, AskedPlace, AskedCheck, AskedEdit, EditsInto};
-
-// The bytes of the longest lawful design: four numbers, 64 kinds, m, 16 needs of three numbers with three bytes each, 31 tokens.
-const DESIGN_ROOM: usize = 244;
+ghost use Rattle.rules.specs.Reply.{refusal, answer, writtenAnswer, plannedAnswer};
+ghost use Rattle.lending.specs.Lent.{given, lent};
+ghost use Rattle.cellweaver_c.specs.Asked.{said, boxed, sizes, sizesOf, newNeed};
+ghost use Rattle.cellweaver_c.specs.Asked.{AskedRead, AskedSizes, AskedWrite, AskedList, AskedPlan, AskedPlace};
+ghost use Rattle.cellweaver_c.specs.Asked.{AskedCheck, AskedEdit, EditsInto};
 
 // A refusal's number, and its value.
 fn say_refused(e: Refusal, value: &mut usize) -> usize
-    ensures { λ r. ⌜ plainly r (now (value .exit)) ≡ refusal e ⌝ }
+    ensures { λ r. ⌜ said r value ≡ refusal e ⌝ }
 {
     let said = number_of(e);
     *value = said.1;
@@ -35,7 +37,7 @@ fn say_refused(e: Refusal, value: &mut usize) -> usize
 
 // A reply's number, and its value.
 fn say(reply: Reply, value: &mut usize) -> usize
-    ensures { λ r. ⌜ plainly r (now (value .exit)) ≡ answer reply ⌝ }
+    ensures { λ r. ⌜ said r value ≡ answer reply ⌝ }
 {
     if let Reply::Refused(e) = reply {
         return say_refused(e, value);
@@ -46,7 +48,7 @@ fn say(reply: Reply, value: &mut usize) -> usize
 
 // The number of what write answers, and the count of bytes.
 fn say_written(written: Written, value: &mut usize) -> usize
-    ensures { λ r. ⌜ plainly r (now (value .exit)) ≡ writtenAnswer written ⌝ }
+    ensures { λ r. ⌜ said r value ≡ writtenAnswer written ⌝ }
 {
     match written {
         Written::Bytes(n) => {
@@ -59,7 +61,7 @@ fn say_written(written: Written, value: &mut usize) -> usize
 
 // The number of what plan and place answer, the box and the value.
 fn say_planned(planned: Planned, width: &mut usize, height: &mut usize, value: &mut usize) -> usize
-    ensures { λ r. ⌜ boxed r (now (value .exit)) (now (width .exit)) (now (height .exit)) ≡ plannedAnswer planned ⌝ }
+    ensures { λ r. ⌜ boxed r value width height ≡ plannedAnswer planned ⌝ }
 {
     match planned {
         Planned::Box(s) => {
@@ -76,7 +78,8 @@ fn say_planned(planned: Planned, width: &mut usize, height: &mut usize, value: &
     }
 }
 
-// Edits a lawful design, and puts the bytes of the one that is handed back. Where `out` is too short no work is lent: that is 11 or 8.
+// Edits a lawful design, and puts the bytes of the one that is handed back. Where `out` is too short no work is lent:
+// that is 11 or 8.
 fn edit_into(
     design: Design,
     change: Edit,
@@ -85,9 +88,9 @@ fn edit_into(
     value: &mut usize,
 ) -> usize
     requires { ⌜ LawfulDesign design ⌝ }
-    ensures { λ r. ⌜ EditsInto design change (now (work .entry)) (now (out .entry)) (plainly r (now (value .exit))) (now (work .exit)) (now (out .exit)) ⌝ }
+    ensures { λ r. ⌜ EditsInto design change (lent work) (lent out) (said r value) ⌝ }
 {
-    if out.len() < DESIGN_ROOM {
+    if out.len() < design_room() {
         let mut none = [0u8; 0];
         let handed = edit(design, change, &mut none);
         let reply = handed.reply;
@@ -110,7 +113,7 @@ fn edit_bytes(
     out: &mut [u8],
     value: &mut usize,
 ) -> usize
-    ensures { λ r. ⌜ AskedEdit (now (bytes .entry)) change (now (work .entry)) (now (out .entry)) (plainly r (now (value .exit))) (now (work .exit)) (now (out .exit)) ⌝ }
+    ensures { λ r. ⌜ AskedEdit (given bytes) change (lent work) (lent out) (said r value) ⌝ }
 {
     let handed = read(bytes);
     let reply = handed.reply;
@@ -123,17 +126,64 @@ fn edit_bytes(
 // Reads a design.
 #[no_mangle]
 pub extern "C" fn cellweaver_read(bytes: &[u8], value: &mut usize) -> usize
-    ensures { λ r. ⌜ AskedRead (now (bytes .entry)) (plainly r (now (value .exit))) ⌝ }
+    ensures { λ r. ⌜ AskedRead (given bytes) (said r value) ⌝ }
 {
     let handed = read(bytes);
     let reply = handed.reply;
     say(reply, value)
 }
 
+// Puts the sizes of a lawful design into places: W, H, m, and the bytes that its lists and its rows take.
+fn put_sizes(
+    design: Design,
+    width: &mut usize,
+    height: &mut usize,
+    modules: &mut usize,
+    work: &mut usize,
+    rows: &mut usize,
+)
+    requires { ⌜ LawfulDesign design ⌝ }
+    ensures { λ _. ⌜ sizes width height modules work rows ≡ sizesOf design ⌝ }
+{
+    *width = design.chip.width.0;
+    *height = design.chip.height.0;
+    *modules = design.modules;
+    *work = work_needed(design);
+    *rows = 4 * design.modules;
+}
+
+// Reads a design, and says its sizes.
+#[no_mangle]
+pub extern "C" fn cellweaver_sizes(
+    bytes: &[u8],
+    width: &mut usize,
+    height: &mut usize,
+    modules: &mut usize,
+    work: &mut usize,
+    rows: &mut usize,
+    value: &mut usize,
+) -> usize
+    ensures { λ r. ⌜ AskedSizes (given bytes) (sizes width height modules work rows) (said r value) ⌝ }
+{
+    let handed = read(bytes);
+    let reply = handed.reply;
+    if let Reply::Refused(e) = reply {
+        *width = 0;
+        *height = 0;
+        *modules = 0;
+        *work = 0;
+        *rows = 0;
+        return say_refused(e, value);
+    }
+    put_sizes(handed.design, width, height, modules, work, rows);
+    *value = 0;
+    0
+}
+
 // Writes a design.
 #[no_mangle]
 pub extern "C" fn cellweaver_write(bytes: &[u8], out: &mut [u8], value: &mut usize) -> usize
-    ensures { λ r. ⌜ AskedWrite (now (bytes .entry)) (now (out .entry)) (plainly r (now (value .exit))) (now (out .exit)) ⌝ }
+    ensures { λ r. ⌜ AskedWrite (given bytes) (lent out) (said r value) ⌝ }
 {
     let handed = read(bytes);
     let reply = handed.reply;
@@ -146,7 +196,7 @@ pub extern "C" fn cellweaver_write(bytes: &[u8], out: &mut [u8], value: &mut usi
 // Fills the lists.
 #[no_mangle]
 pub extern "C" fn cellweaver_list(bytes: &[u8], work: &mut [u8], value: &mut usize) -> usize
-    ensures { λ r. ⌜ AskedList (now (bytes .entry)) (now (work .entry)) (plainly r (now (value .exit))) (now (work .exit)) ⌝ }
+    ensures { λ r. ⌜ AskedList (given bytes) (lent work) (said r value) ⌝ }
 {
     let handed = read(bytes);
     let reply = handed.reply;
@@ -166,7 +216,7 @@ pub extern "C" fn cellweaver_plan(
     height: &mut usize,
     value: &mut usize,
 ) -> usize
-    ensures { λ r. ⌜ AskedPlan (now (bytes .entry)) (now (work .entry)) (now (rows .entry)) (boxed r (now (value .exit)) (now (width .exit)) (now (height .exit))) (now (work .exit)) (now (rows .exit)) ⌝ }
+    ensures { λ r. ⌜ AskedPlan (given bytes) (lent work) (lent rows) (boxed r value width height) ⌝ }
 {
     let handed = read(bytes);
     let reply = handed.reply;
@@ -186,7 +236,7 @@ pub extern "C" fn cellweaver_place(
     height: &mut usize,
     value: &mut usize,
 ) -> usize
-    ensures { λ r. ⌜ AskedPlace (now (bytes .entry)) (now (work .entry)) (now (rows .entry)) (boxed r (now (value .exit)) (now (width .exit)) (now (height .exit))) (now (rows .exit)) ⌝ }
+    ensures { λ r. ⌜ AskedPlace (given bytes) (given work) (lent rows) (boxed r value width height) ⌝ }
 {
     let handed = read(bytes);
     let reply = handed.reply;
@@ -199,7 +249,7 @@ pub extern "C" fn cellweaver_place(
 // Judges a floorplan.
 #[no_mangle]
 pub extern "C" fn cellweaver_check(bytes: &[u8], rows: &[u8], value: &mut usize) -> usize
-    ensures { λ r. ⌜ AskedCheck (now (bytes .entry)) (now (rows .entry)) (plainly r (now (value .exit))) ⌝ }
+    ensures { λ r. ⌜ AskedCheck (given bytes) (given rows) (said r value) ⌝ }
 {
     let handed = read(bytes);
     let reply = handed.reply;
@@ -221,7 +271,7 @@ pub extern "C" fn cellweaver_edit_need(
     out: &mut [u8],
     value: &mut usize,
 ) -> usize
-    ensures { λ r. ⌜ AskedEdit (now (bytes .entry)) (Change k (record { clbs = clbs; rams = rams; multipliers = multipliers })) (now (work .entry)) (now (out .entry)) (plainly r (now (value .exit))) (now (work .exit)) (now (out .exit)) ⌝ }
+    ensures { λ r. ⌜ AskedEdit (given bytes) (newNeed k clbs rams multipliers) (lent work) (lent out) (said r value) ⌝ }
 {
     let need = Need {
         clbs,
@@ -240,7 +290,7 @@ pub extern "C" fn cellweaver_edit_turn(
     out: &mut [u8],
     value: &mut usize,
 ) -> usize
-    ensures { λ r. ⌜ AskedEdit (now (bytes .entry)) (Turn position) (now (work .entry)) (now (out .entry)) (plainly r (now (value .exit))) (now (work .exit)) (now (out .exit)) ⌝ }
+    ensures { λ r. ⌜ AskedEdit (given bytes) (Turn position) (lent work) (lent out) (said r value) ⌝ }
 {
     edit_bytes(bytes, Edit::Turn { position }, work, out, value)
 }

@@ -1,10 +1,14 @@
--- `cellweaver_c::edit_into` meets its contract: without room for any design the edit sees no work and is refused; otherwise a refused edit
--- leaves `out`, and a granted one's design is written. Assumes nothing.
+-- `cellweaver_c::edit_into` meets its contract: without room for any design the edit sees no work and is refused; otherwise a refused
+-- edit leaves `out`, and a granted one's design is written. Assumes nothing.
 use mathlib.Core.Path.{refl}
+use native.Mathlib.Omega.{arith}
 use borrow.Author.Needs.{needs}
 use Rattle.cellweaver_c.proofs.Editing.{short-out, edit-refused, edit-put}
 use Rattle.cellweaver_c.proofs.edit_into.Statement.{statement}
 use Rattle.cellweaver_c.proofs.edit_into.Tie as tie
+
+design-room-requires : tie.Need-design-room-requires
+design-room-requires c κs = search needs
 
 slice-aggregate-edit : tie.Need-slice-aggregate-edit
 slice-aggregate-edit c = search needs
@@ -18,7 +22,7 @@ say-requires c κs = search needs
 returns : tie.Need-returns
 returns c =
     let k = c .before .before .before in let t = k .before .before in
-    short-out _ _ (t .before .before .before .pre) refl (k .edit .ensures) (c .say .ensures) (t .if1 .taken)
+    short-out _ _ (t .before .before .before .before .pre) refl (k .edit .ensures) (c .say .ensures) (omega arith)
 
 edit-requires-2 : tie.Need-edit-requires-2
 edit-requires-2 c κs = search needs
@@ -35,7 +39,7 @@ same-length c = search needs
 returns-2 : tie.Need-returns-2
 returns-2 c =
     let r = c .before .before .before in let k = r .before .before .before .before in let t = k .before .before in
-    edit-refused _ _ (t .before .before .before .pre) (t .if1 .left) (k .edit2 .ensures) (r .reply .given .1) (c .say-refused .ensures)
+    edit-refused _ _ (t .before .before .before .before .pre) (omega arith) (k .edit2 .ensures) (r .reply .given .1) (c .say-refused .ensures)
 
 enum-told : tie.Need-enum-told
 enum-told c = search needs
@@ -54,13 +58,16 @@ same-length-3 c = search needs
 
 returns-3 : tie.Need-returns-3
 returns-3 c =
-    let w = c .before .before .before .before in let r = w .before .before .before in let k = r .before .before .before .before in let t = k .before .before in
-    edit-put _ _ (t .before .before .before .pre) (t .if1 .left) (k .edit2 .ensures) (r .enum-told .given .1) (w .write .ensures) (c .say-written .ensures)
+    let w = c .before .before .before .before in let r = w .before .before .before in
+    let k = r .before .before .before .before in let t = k .before .before in
+    edit-put _ _ (t .before .before .before .before .pre) (omega arith) (k .edit2 .ensures) (r .enum-told .given .1)
+    (w .write .ensures) (c .say-written .ensures)
 
 pub edit-into-spec : {M : Type 1} → statement M
 edit-into-spec =
     tie.close
     (tie.spec
+    design-room-requires
     slice-aggregate-edit
     edit-requires
     say-requires
