@@ -1,7 +1,7 @@
 -- Wrong services that demand 1 rejects, each by an input: what a number of its table would have to mean there does not hold, or a buffer does not
 -- stand. Nothing of a service is known here but the demand. Assumes nothing.
 use mathlib.Core.Path.{_≡_, refl, sym, _∙_, ap}
-use mathlib.Core.Logic.{_⊎_, inl, inr}
+use mathlib.Core.Logic.{_⊎_, inl, inr, ⊎-elim}
 use mathlib.Core.Bool.{So}
 use mathlib.Core.List.{List, [], _∷_}
 use Prim.Native.Nat.{ℕ, _≤_, _<_}
@@ -16,7 +16,7 @@ use Rattle.rules.specs.declared.Handed.{Handed}
 use Rattle.rules.specs.declared.Written.{Written}
 use Rattle.rules.specs.declared.Planned.{Planned}
 use Rattle.rules.specs.Search.{all, count, total}
-use Rattle.rules.specs.Chip.{OnChip, corner, column, columnOf, coversBlock, heldBetween, holds}
+use Rattle.rules.specs.Chip.{OnChip, corner, shape, column, columnOf, coversBlock, heldBetween, holds}
 use Rattle.rules.specs.Tree.{stands, has, joined, added, standing}
 use Rattle.rules.specs.Slot.{slot}
 use Rattle.rules.specs.Design.{LawfulDesign, LawfulPlacement, SuitsOf, inRange, lawfulNeed, slotsOf, AllStairs, OwnLists, widthOf}
@@ -24,11 +24,12 @@ use Rattle.rules.specs.Bytes.{took, refuse, padded, numberBytes, needBytes, row
 use Rattle.rules.specs.Check.{fromRows, FirstOff, FirstShort}
 use Rattle.rules.specs.Reply.{Answer, plainly, refusal, answer, writtenAnswer, plannedAnswer}
 use Rattle.rules.specs.Service.{Enough, workOf, rowsOf, zeros}
-use Rattle.rules.specs.Bench.{D, need, bytesEnding}
-use Rattle.rules.proofs.Checking.{on-chip-iff}
+use Rattle.rules.specs.Bench.{Says, D, need, bytesEnding}
+use Rattle.rules.proofs.Choosing.{chosen-once}
+use Rattle.rules.proofs.Floorplans.{own-stairs}
 use Rattle.promises.specs.Services.{Services}
 use Rattle.promises.specs.Demand1
-use Rattle.promises.proofs.Inputs.{D-lawful, D-enough, tall, tall-breaks-limits, twice, twice-bad-token, names-turned, names-no-zero-need, starved, half-block, over-the-side, printed, printed-lawful, of-lawful, gets-4, gets-5}
+use Rattle.promises.proofs.Inputs.{D-lawful, D-plan, D-enough, tall, tall-breaks-limits, twice, twice-bad-token, names-turned, names-no-zero-need, starved, half-block, over-the-side, printed, printed-lawful, of-lawful, gets-4, gets-5}
 
 -- D's bytes, and D's length in bytes
 D-bytes : length (designBytes D) ≡ 19
@@ -203,6 +204,20 @@ module _ (S : Services) (demand : Demand1.Demand1 S) where
       go (Demand1.none _ st _) = absurd (no-stairs st)
       go (Demand1.lost _ st _ _) = absurd (no-stairs st)
       go (Demand1.done _ st _) = absurd (no-stairs st)
+
+  -- over D's own lists there is a shape to choose, and one goes down from it: neither 10 nor 9
+  pub placer-finds-nothing : (work rows rows' : List ℕ) (r : Planned) → OwnLists D (slotsOf D work) → S .place D work rows r rows'
+      → (plannedAnswer r .number ≡ 10) ⊎ (plannedAnswer r .number ≡ 9) → ⊥
+  unfolding D Says
+  placer-finds-nothing work rows rows' r own x e = go (of-lawful D-lawful (demand .numbered .place D work rows rows' r x)) e
+    where
+      go : {a : Answer} → Demand1.PlaceNumbered D work rows rows' a → (a .number ≡ 10) ⊎ (a .number ≡ 9) → ⊥
+      go (Demand1.short _) e = ⊎-elim (λ z. omega arith) (λ z. omega arith) e
+      go (Demand1.stranger _ f) e = f (own-stairs D D-lawful (slotsOf D work) own)
+      go (Demand1.none _ _ f) e = f (shape 4 3) (D-plan (slotsOf D work) own .0 .stored)
+      go (Demand1.lost _ _ ch f) e =
+          let (c, (p, down), _) = D-plan (slotsOf D work) own in let q = chosen-once _ _ _ _ c ch in f p (rw q at down)
+      go (Demand1.done _ _ _) e = ⊎-elim (λ z. omega arith) (λ z. omega arith) e
 
   -- a placer that counts a block covered in part: over whatever lists, module 0 in the rows 1 to 3 is no floorplan of D
   pub placer-counts-half : (work rows : List ℕ) (r : Planned) → S .place D work rows r half-block → plannedAnswer r .number ≡ 0 → ⊥

@@ -33,7 +33,7 @@ use Rattle.rules.proofs.Changing.{edit-lawful}
 use Rattle.rules.proofs.Same.{names-same}
 use Rattle.promises.specs.Services.{Services}
 use Rattle.promises.specs.Demand2.{GoodLists, Demand2}
-use Rattle.promises.specs.Demand3.{Run, listed, edited, saved, SameSizes, NeedChanged, CutTurned, Demand3}
+use Rattle.promises.specs.Demand3.{Run, listed, planned, edited, saved, SameSizes, NeedChanged, CutTurned, Demand3}
 use Rattle.promises.proofs.Inputs.{D-lawful, turned, grown, turned-list, names-turned, names-grown, names-no-zero-need}
 use Rattle.promises.proofs.RefutePlans.{never-empty}
 
@@ -188,3 +188,9 @@ module _ (S : Services) (demand : Demand3 S) (start work : List ℕ) (q : Reply)
   edit-refuses-a-saved-design two out out' w r x h y r' after z f =
       let s = two .design-again D out out' w r D-lawful x (D-fits out h) y .1 in
       demand .kept D start (r .design) work (saved first x (D-fits out h) y) .refused (Turn 2) r' after z f .1 (sym (names-same s (Turn 2)) ∙ names-turned)
+
+-- the same over a run that plan began
+pub edit-refuses-all-after-plan : (S : Services) → Demand3 S → (start rows work rows' : List ℕ) (p : Planned) → Enough D start rows
+    → S .plan D start rows p work rows' → (r : Handed) (after : List ℕ) → S .edit D (Turn 2) work r after → (answer (r .reply) .number ≡ 0 → ⊥) → ⊥
+edit-refuses-all-after-plan S demand start rows work rows' p h y r after x f =
+    demand .kept D start D work (planned h y) .refused (Turn 2) r after x f .1 names-turned
