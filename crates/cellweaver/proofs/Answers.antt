@@ -1,12 +1,11 @@
 -- Each answer of a service meets its contract where its condition holds; the conditions of the others contradict it. Assumes nothing.
 use mathlib.Core.Path.{_≡_, refl, sym, _∙_, ap}
 use mathlib.Core.Logic.{_⊎_, inl, inr}
-use mathlib.Core.Bool.{Bool, false, _&&_, So}
+use mathlib.Core.Bool.{false, So}
 use mathlib.Core.List.{List}
 use Prim.Native.Nat.{ℕ, _*_, _≤_, _<_}
 use native.Mathlib.Omega.{arith}
 use borrow.Author.Tests.{le-leb, lt-leb}
-use lib.Dec.{leb}
 use lib.ListN.{length}
 use Rattle.rules.specs.declared.Design.{Design}
 use Rattle.rules.specs.declared.Edit.{Edit}
@@ -25,6 +24,7 @@ use Rattle.rules.proofs.Searching.{absurd-so, test-iffs}
 use Rattle.rules.proofs.Nodes.{never-both, same-refusal}
 use Rattle.listing.specs.Making.{ListedAfresh}
 use Rattle.placing.specs.Place.{PlacedFrom}
+use Rattle.cellweaver.specs.Tested.{enoughLent}
 
 -- list
 module _ (d : Design) (sized : Sized d) (before : List ℕ) where
@@ -53,20 +53,17 @@ module _ (d : Design) (sized : Sized d) (before : List ℕ) where
       done = λ _ _. (refl, z .0, z .1);
     }
 
--- the room that plan and place test
-abbrev HasRoom : Design → List ℕ → List ℕ → Bool
-HasRoom d work rows = leb (workOf d) (length work) && leb (rowsOf d) (length rows)
-
-pub room : (d : Design) (work rows : List ℕ) → LawfulDesign d → So (HasRoom d work rows) → Enough d work rows
-room d work rows l s = let h = simp test-iffs at s in record { lawful = l; bytes = h .0; places = h .1 }
+-- the lent bytes that plan and place test
+pub enough : (d : Design) (work rows : List ℕ) → LawfulDesign d → So (enoughLent d work rows) → Enough d work rows
+enough d work rows l s = let h = simp test-iffs at s in record { lawful = l; bytes = h .0; places = h .1 }
 
 -- work of the same length serves as well
-pub room-kept : {d : Design} {work after rows : List ℕ} → Enough d work rows → length after ≡ length work → Enough d after rows
-room-kept e q = let b = e .bytes in record { lawful = e .lawful; bytes = omega arith; places = e .places }
+pub enough-kept : {d : Design} {work after rows : List ℕ} → Enough d work rows → length after ≡ length work → Enough d after rows
+enough-kept e q = let b = e .bytes in record { lawful = e .lawful; bytes = omega arith; places = e .places }
 
 module _ (d : Design) (sized : Sized d) (work rows : List ℕ) where
-  no-room : {A : Type 0} → HasRoom d work rows ≡ false → Enough d work rows → A
-  no-room f e = absurd-so (sym f ∙ simp test-iffs (e .bytes, e .places))
+  not-enough : {A : Type 0} → enoughLent d work rows ≡ false → Enough d work rows → A
+  not-enough f e = absurd-so (sym f ∙ simp test-iffs (e .bytes, e .places))
 
   not-short : {A : Type 0} → Enough d work rows → (length work < workOf d) ⊎ (length rows < rowsOf d) → A
   not-short e (inl h) = let b = e .bytes in absurd (omega arith)
@@ -83,14 +80,14 @@ module _ (d : Design) (sized : Sized d) (work rows : List ℕ) where
     done = λ e s p _ _. never-both d u (e .lawful);
   }
 
-  pub plan-short : LawfulDesign d → HasRoom d work rows ≡ false → Plans d work rows (planned.Refused TooShort) work rows
+  pub plan-short : LawfulDesign d → enoughLent d work rows ≡ false → Plans d work rows (planned.Refused TooShort) work rows
   plan-short l f = record {
     sized = sized;
     unlawful = λ e u. never-both d u l;
     short = λ _ _. (refl, refl, refl);
-    listed = λ e. no-room f e;
-    none = λ e _. no-room f e;
-    done = λ e s p _ _. no-room f e;
+    listed = λ e. not-enough f e;
+    none = λ e _. not-enough f e;
+    done = λ e s p _ _. not-enough f e;
   }
 
   pub plan-done : {after rows' : List ℕ} {r : Planned} → Enough d work rows → ListedAfresh d work after → PlacedFrom d after rows r rows' → Plans d work rows r after rows'
@@ -115,15 +112,15 @@ module _ (d : Design) (sized : Sized d) (work rows : List ℕ) where
     done = λ e _ s p _ _. never-both d u (e .lawful);
   }
 
-  pub place-short : LawfulDesign d → HasRoom d work rows ≡ false → Places d work rows (planned.Refused TooShort) rows
+  pub place-short : LawfulDesign d → enoughLent d work rows ≡ false → Places d work rows (planned.Refused TooShort) rows
   place-short l f = record {
     sized = sized;
     unlawful = λ e u. never-both d u l;
     short = λ _ _. (refl, refl);
-    stranger = λ e _. no-room f e;
-    none = λ e _ _. no-room f e;
-    lost = λ e _ s _ _. no-room f e;
-    done = λ e _ s p _ _. no-room f e;
+    stranger = λ e _. not-enough f e;
+    none = λ e _ _. not-enough f e;
+    lost = λ e _ s _ _. not-enough f e;
+    done = λ e _ s p _ _. not-enough f e;
   }
 
   module _ (e : Enough d work rows) where

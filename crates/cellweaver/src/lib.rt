@@ -18,29 +18,30 @@ use rules::Written;
 use slots::board_of;
 use stairs::all_stairs;
 ghost use mathlib.Core.Path.{_≡_};
-ghost use mathlib.Core.Bool.{_&&_};
 ghost use Prim.Native.Nat.{_≤_};
-ghost use lib.Dec.{leb};
 ghost use lib.ListN.{length};
-ghost use Rattle.rules.specs.Design.{LawfulDesign, nodes, slotsOf, widthOf, heightOf};
-ghost use Rattle.rules.specs.Service.{workOf, rowsOf, Reads, Writes, Lists, Plans, Places, Edits, Checks};
 ghost use Rattle.rules.specs.declared.Reply.the-variants.{Refused};
-ghost use Rattle.rules.proofs.Test.{areStairs};
+ghost use Rattle.rules.specs.Design.{LawfulDesign, nodes, slotsOf};
+ghost use Rattle.rules.specs.Service.{workOf, Reads, Writes, Lists, Plans, Places, Edits, Checks};
+ghost use Rattle.slots.specs.Size.{boardOf};
+ghost use Rattle.stairs.specs.Walk.{stairsOn};
+ghost use Rattle.cellweaver.specs.Tested.{enoughLent};
 
 // The work bytes that a lawful design's lists take.
 pub fn work_needed(design: Design) -> usize
     requires { ⌜ LawfulDesign design ⌝ }
     ensures { λ r. ⌜ r ≡ workOf design ⌝ }
 {
-    let width = design.chip.width.0;
+    let board = board_of(design);
+    let width = board.width.0;
     let nodes = 2 * design.modules - 1;
-    nodes * design.chip.height.0 * width * width
+    nodes * board.listed.0 * width * width
 }
 
-// The lent bytes have room for a lawful design's lists and rows.
-fn has_room(design: Design, work: &[u8], rows: &[u8]) -> bool
+// The lent bytes are enough for a lawful design's lists and rows.
+fn enough_lent(design: Design, work: &[u8], rows: &[u8]) -> bool
     requires { ⌜ LawfulDesign design ⌝ }
-    ensures { λ r. ⌜ r ≡ (leb (workOf design) (length (now (work .entry))) && leb (rowsOf design) (length (now (rows .entry)))) ⌝ }
+    ensures { λ r. ⌜ r ≡ enoughLent design (now (work .entry)) (now (rows .entry)) ⌝ }
 {
     work_needed(design) <= work.len() && 4 * design.modules <= rows.len()
 }
@@ -48,7 +49,7 @@ fn has_room(design: Design, work: &[u8], rows: &[u8]) -> bool
 // Every slot of every node is a stair.
 fn are_stairs(design: Design, work: &[u8]) -> bool
     requires { ⌜ LawfulDesign design × (workOf design ≤ length (now work)) ⌝ }
-    ensures { λ r. ⌜ r ≡ areStairs (widthOf design) (heightOf design) (nodes design) (slotsOf design (now (work .entry))) ⌝ }
+    ensures { λ r. ⌜ r ≡ stairsOn (boardOf design) (nodes design) (slotsOf design (now (work .entry))) ⌝ }
 {
     all_stairs(work, board_of(design), 2 * design.modules - 1)
 }
@@ -90,7 +91,7 @@ pub fn plan(design: Design, work: &mut [u8], rows: &mut [u8]) -> Planned
     if let Reply::Refused(e) = reply {
         return Planned::Refused(e);
     }
-    if !has_room(design, work, rows) {
+    if !enough_lent(design, work, rows) {
         return Planned::Refused(Refusal::TooShort);
     }
     list_all(work, design);
@@ -105,7 +106,7 @@ pub fn place(design: Design, work: &[u8], rows: &mut [u8]) -> Planned
     if let Reply::Refused(e) = reply {
         return Planned::Refused(e);
     }
-    if !has_room(design, work, rows) {
+    if !enough_lent(design, work, rows) {
         return Planned::Refused(Refusal::TooShort);
     }
     if !are_stairs(design, work) {

@@ -13,12 +13,12 @@ use Rattle.rules.specs.declared.Refusal.{Refusal}
 use Rattle.rules.specs.declared.Reply.the-variants.{Done, Refused}
 use Rattle.rules.specs.declared.Handed.{Handed}
 use Rattle.rules.specs.declared.Written.{Written}
-use Rattle.rules.specs.Design.{LawfulDesign, nodes}
+use Rattle.rules.specs.Design.{LawfulDesign, nodes, slotRows}
 use Rattle.rules.specs.Edit.{namesPlace, changed}
 use Rattle.rules.specs.Bytes.{designBytes}
 use Rattle.rules.specs.Reply.{Answer, plainly, refusal, answer, writtenAnswer}
 use Rattle.rules.specs.Service.{workOf, Writes, Edits}
-use Rattle.rules.proofs.Limits.{limits}
+use Rattle.rules.proofs.Limits.{limits, every-row}
 use Rattle.rules.proofs.Changing.{edit-lawful}
 use Rattle.promises.proofs.Answering.{edit-granted}
 use Rattle.cellweaver_c.specs.Asked.{PutsBack, EditsInto}
@@ -28,7 +28,8 @@ use Rattle.writing.proofs.Longest.{longest}
 
 some-work : (d : Design) → LawfulDesign d → 0 < workOf d
 some-work d lawful =
-    let l = limits d lawful in let n : 0 < nodes d = omega arith in mul-pos (mul-pos (mul-pos n (l .chip .high)) (l .chip .wide)) (l .chip .wide)
+    let l = limits d lawful in let n : 0 < nodes d = omega arith in let r : 0 < slotRows d = omega (arith, every-row d) in
+    mul-pos (mul-pos (mul-pos n r) (l .chip .wide)) (l .chip .wide)
 
 -- a granted edit hands a lawful design back
 pub back-lawful : (d : Design) (e : Edit) → LawfulDesign d → {work after : List ℕ} {h : Handed} → Edits d e work h after

@@ -2,43 +2,19 @@
 -- says to choose, or there is none. Assumes nothing.
 use mathlib.Core.Path.{_≡_, refl, sym, _∙_, ap}
 use mathlib.Core.Bool.{Bool, true, false, _&&_, _||_}
-use mathlib.Core.List.{List}
-use Prim.Native.Nat.{ℕ, zero, suc, _+_, _-_, _*_, _≤_, _<_}
+use Prim.Native.Nat.{ℕ, zero, suc, _+_, _-_, _*_, _≤_}
 use native.Mathlib.Omega.{arith}
-use native.Mathlib.Nat.{mul-le-mul-right}
 use native.Mathlib.Numerals.{add-one}
 use lib.Dec.{ltb, eqb}
-use lib.ListN.{length}
 use borrow.Author.Tests.{lt-ltb, ne-eqb}
-use Rattle.rules.specs.declared.Corner.{Corner}
 use Rattle.rules.specs.declared.Shape.{Shape}
 use Rattle.rules.specs.Chip.{shape}
 use Rattle.rules.specs.Placement.{area}
-use Rattle.rules.specs.Slot.{slot, slotStart, workNeeded, Empty}
+use Rattle.rules.specs.Slot.{Empty}
 use Rattle.rules.specs.Choice.{Chosen}
 use Rattle.rules.proofs.Test.{onlyIf, better, bestWidth}
 use Rattle.rules.proofs.Choosing.{chooses-none, chooses-this}
-use Rattle.rules.proofs.Working.{slot-within}
-use Rattle.slots.specs.declared.Board.{Board}
-use Rattle.choosing.specs.Choose.{Ready, OnBoard, bytesFrom, shapeAt, chosenShape, betterOf}
-
--- a slot in bytes that have room for it
-pub slot-bytes : (W H t : ℕ) (c : Corner) (work : List ℕ) {from : ℕ} → from ≡ slotStart W H t c → bytesFrom work from ≡ slot W H work t c
-unfolding slot
-slot-bytes W H t c work e = ap (bytesFrom work) e
-
-pub slot-room : {board : Board} {t : ℕ} {c : Corner} {work : List ℕ} {from : ℕ} → Ready board (suc t) work → OnBoard board c
-    → from ≡ slotStart (board .width .0) (board .height .0) t c → from + board .width .0 ≤ length work
-slot-room {board} {t} {c} r on e =
-    let W = board .width .0 in let H = board .height .0 in let w = r .columns in
-    let z = slot-within W H (suc t) t (W - 1) c (omega arith) on (omega arith) in let h = r .room in omega arith
-
--- and in bytes that have room for more nodes
-pub ready-for : {board : Board} {n : ℕ} {work : List ℕ} → Ready board n work → (t : ℕ) → t < n → Ready board (suc t) work
-ready-for {board} {n} r t h =
-    let W = board .width .0 in let H = board .height .0 in let z : suc t ≤ n = h in
-    let a : workNeeded W H (suc t) ≤ workNeeded W H n = mul-le-mul-right W (mul-le-mul-right W (mul-le-mul-right H z)) in
-    let e = r .nodes in let k = r .room in record { columns = r .columns; rows = r .rows; nodes = (omega arith, omega arith); room = omega arith }
+use Rattle.choosing.specs.Choose.{shapeAt, chosenShape, betterOf}
 
 -- the shape of the width found
 found-shape : ℕ → (ℕ → ℕ) → Shape

@@ -26,11 +26,13 @@ use Rattle.rules.proofs.Standing.{Once, Part, whole, in-left, in-right, Among, 
 use Rattle.rules.proofs.Nodes.{modules-within, lawful-tree}
 use Rattle.rules.proofs.Placing.{merge-left, merge-right}
 use Rattle.slots.specs.declared.Board.{Board}
+use Rattle.trees.specs.Positions.{LeftChildren}
+use Rattle.trees.proofs.Lefts.{left-child}
 use Rattle.choosing.specs.declared.Pair.{Pair}
 use Rattle.choosing.specs.declared.Pair.the-variants.{Taken, None}
 use Rattle.choosing.specs.declared.Descent.{Descent}
 use Rattle.choosing.specs.Choose.{takenIf, pairOf, pairIn}
-use Rattle.choosing.specs.Descend.{nowhere, roomOf, placeOf, firstDescent, downLeaf, givenRooms, downPair, downNode, descended, Settled, Lefts, anySuits, LaidOut, LaysOut}
+use Rattle.choosing.specs.Descend.{nowhere, roomOf, placeOf, firstDescent, downLeaf, givenRooms, downPair, downNode, descended, Settled, anySuits, LaidOut, LaysOut}
 use Rattle.choosing.proofs.Steps.{cut-pair, token-settled}
 
 -- something holds of each thing standing
@@ -256,13 +258,13 @@ only-part : {u t : Tree} → Among u (t ∷ []) → Part u t
 only-part (here p) = p
 
 -- going down the nodes of a lawful design is going down its tree
-pub lays-out : (board : Board) (slots : ℕ → Corner → ℕ → ℕ) (d : Design) → LawfulDesign d → (lefts : List ℕ) → Lefts d lefts → (s : Shape) (end : Descent)
+pub lays-out : (board : Board) (slots : ℕ → Corner → ℕ → ℕ) (d : Design) → LawfulDesign d → (lefts : List ℕ) → LeftChildren d lefts → (s : Shape) (end : Descent)
     → end ≡ descended board slots (d .tokens) lefts (nodes d) (firstDescent (nodes d) s)
     → LaidOut board slots d s (record { ok = end .ok; places = end .places })
 lays-out board slots d lawful lefts L s end e =
     let T = lawful-tree d lawful in let m = modules-within d (T .limits) in
     let C = comes board slots (d .tokens) lefts (d .modules) (nodes d) (m .1) (omega arith)
-    (λ t k l r us h g. L .left t k l r h (sym (last-is g))) (T .reading) (le-refl (nodes d)) (λ u a. once-part (only-part a) (T .once))
+    (λ t k l r us h g. left-child lawful L h (sym (last-is g))) (T .reading) (le-refl (nodes d)) (λ u a. once-part (only-part a) (T .once))
     (firstDescent (nodes d) s) (first-sized (nodes d) s) in
     let (a, b) = one-comes board slots (root d) (corner 0 0) s (firstDescent (nodes d) s) end (rw e C) (first-ok (nodes d) s)
     (first-room (nodes d) s (position (root d)) (last-position (T .reading)) (omega arith)) in

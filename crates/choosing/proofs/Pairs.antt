@@ -14,17 +14,18 @@ use Rattle.rules.specs.declared.Shape.{Shape}
 use Rattle.rules.specs.declared.Direction.{Direction}
 use Rattle.rules.specs.declared.Direction.the-variants.{Vertical, Horizontal}
 use Rattle.rules.specs.Search.{any, least}
-use Rattle.rules.specs.Slot.{slot, slotStart, CornerOn}
+use Rattle.rules.specs.Slot.{CornerOn}
 use Rattle.rules.specs.Choice as choice
 use Rattle.rules.specs.Choice.{beside}
 use Rattle.rules.proofs.Test.{meets, leftIndex, leftShape, rightIndex, rightShape, hasPair}
 use Rattle.rules.proofs.Searching.{absurd-so, any-iff, least-is, least-found}
 use Rattle.rules.proofs.Choosing.{pair-found, takes}
 use Rattle.slots.specs.declared.Board.{Board}
+use Rattle.slots.specs.Lent.{OnBoard, startOn, slotsOn, bytesFrom, Lent}
+use Rattle.slots.proofs.Lending.{slot-bytes}
 use Rattle.choosing.specs.declared.Pair.{Pair}
 use Rattle.choosing.specs.declared.Pair.the-variants.{Taken, None}
-use Rattle.choosing.specs.Choose.{Ready, OnBoard, Storable, Near, bytesFrom, shapeAt, takenIf, pairOf, pairIn, firstOf, firstPair, makesWhole, pairAt, pairWith, pairFrom}
-use Rattle.choosing.proofs.Best.{slot-bytes}
+use Rattle.choosing.specs.Choose.{Storable, Near, shapeAt, takenIf, pairOf, pairIn, firstOf, firstPair, makesWhole, pairAt, pairWith, pairBeside, pairFrom}
 
 -- one search more
 pub next-pair : (f : ℕ → Pair) (n : ℕ) {found next r : Pair} → found ≡ firstPair f n → next ≡ f n → r ≡ firstOf found next → r ≡ firstPair f (n + 1)
@@ -79,11 +80,12 @@ module _ (W H : ℕ) (d : Direction) (R : Corner → ℕ → ℕ) (c : Corner) (
   pair-beside e p on =
       let o : CornerOn W H (beside d c s) = rw e at on in rw (e, pairWith, lt-ltb 0 (s .h .0) p, lt-ltb _ W (o .column), lt-ltb _ H (o .row))
 
-pub pair-there : (W H t : ℕ) (work : List ℕ) (d : Direction) (c : Corner) (whole s : Shape) {b : Corner} {from : ℕ} {r : Pair}
-    → b ≡ beside d c s → 0 < s .h .0 → CornerOn W H b → from ≡ slotStart W H t b → r ≡ firstPair (pairAt d s whole (bytesFrom work from)) W
-    → r ≡ pairWith W H d (slot W H work t) c whole s
-pair-there W H t work d c whole s {b} e p on f q =
-    q ∙ ap (λ g. firstPair (pairAt d s whole g) W) (slot-bytes W H t b work f) ∙ pair-beside W H d (slot W H work t) c whole s e p on
+pub pair-there : (board : Board) (t : ℕ) (work : List ℕ) (d : Direction) (c : Corner) (whole s : Shape) {b : Corner} {from : ℕ} {r : Pair}
+    → b ≡ beside d c s → 0 < s .h .0 → OnBoard board b → from ≡ startOn board t b
+    → r ≡ firstPair (pairAt d s whole (bytesFrom work from)) (board .width .0) → r ≡ pairBeside board d (slotsOn board work t) c whole s
+pair-there board t work d c whole s {b} e p on f q =
+    q ∙ ap (λ g. firstPair (pairAt d s whole g) (board .width .0)) (slot-bytes board t b work f)
+    ∙ pair-beside (board .width .0) (board .height .0) d (slotsOn board work t) c whole s e p on
 
 module _ (W H : ℕ) (d : Direction) (L R : Corner → ℕ → ℕ) (c : Corner) (whole : Shape) where
   left-of : ℕ → Shape
@@ -139,19 +141,20 @@ module _ (W H : ℕ) (d : Direction) (L R : Corner → ℕ → ℕ) (c : Corner)
   pair-missing e s o p = let e' = rw (pair-found W H d L R c whole s o p) at e in let z : _≡_ {A = ℕ} 0 1 = cc in omega arith
 
 -- the corner beside a stored shape is not far off the chip; beside the left shape of a pair that is taken it is on it
-pub near-beside : {board : Board} {n : ℕ} {work : List ℕ} {c : Corner} {s : Shape} (d : Direction) → Ready board n work → OnBoard board c → Storable s
+pub near-beside : {board : Board} {n : ℕ} {work : List ℕ} {c : Corner} {s : Shape} (d : Direction) → Lent board n work → OnBoard board c → Storable s
     → Near (beside d c s)
 near-beside Vertical r on z = let x = on .column in let y = on .row in record { column = omega arith; row = omega arith }
 near-beside Horizontal r on z = let x = on .column in let y = on .row in record { column = omega arith; row = omega arith }
 
 pub taken-near : {board : Board} {n : ℕ} {work : List ℕ} (slots : ℕ → Corner → ℕ → ℕ) (d : Direction) (l r : ℕ) (c : Corner) (whole : Shape) {p : Pair} {s o : Shape}
-    → Ready board n work → p ≡ pairIn board slots d l r c whole → p ≡ Taken s o → Near (beside d c s)
+    → Lent board n work → p ≡ pairIn board slots d l r c whole → p ≡ Taken s o → Near (beside d c s)
 taken-near {board} slots d l r c whole z q e =
     let on = pair-taken (board .width .0) (board .height .0) d (slots l) (slots r) c whole (sym q ∙ e) .pair .corner in
     let x = on .column in let y = on .row in record { column = omega arith; row = omega arith }
 
 -- the search with one byte of the left list
-pub from-byte : (W H t : ℕ) (work : List ℕ) (d : Direction) (R : Corner → ℕ → ℕ) (c : Corner) (whole : Shape) (i : ℕ) {from : ℕ} {s : Shape} {p : Pair}
-    → from ≡ slotStart W H t c → s ≡ shapeAt (bytesFrom work from) i → p ≡ pairWith W H d R c whole s → p ≡ pairFrom W H d (slot W H work t) R c whole i
+pub from-byte : (board : Board) (t : ℕ) (work : List ℕ) (d : Direction) (R : Corner → ℕ → ℕ) (c : Corner) (whole : Shape) (i : ℕ) {from : ℕ} {s : Shape} {p : Pair}
+    → from ≡ startOn board t c → s ≡ shapeAt (bytesFrom work from) i → p ≡ pairBeside board d R c whole s
+    → p ≡ pairFrom (board .width .0) (board .height .0) d (slotsOn board work t) R c whole i
 unfolding pairFrom
-from-byte W H t work d R c whole i f q e = e ∙ ap (pairWith W H d R c whole) (q ∙ ap (λ g. shapeAt g i) (slot-bytes W H t c work f))
+from-byte board t work d R c whole i f q e = e ∙ ap (pairBeside board d R c whole) (q ∙ ap (λ g. shapeAt g i) (slot-bytes board t c work f))

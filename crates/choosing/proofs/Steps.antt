@@ -20,10 +20,11 @@ use Rattle.rules.specs.Chip.{corner}
 use Rattle.rules.specs.Choice.{beside}
 use Rattle.rules.specs.Design.{mostModules}
 use Rattle.slots.specs.declared.Board.{Board}
+use Rattle.slots.specs.Lent.{OnBoard, Lent}
 use Rattle.choosing.specs.declared.Pair.{Pair}
 use Rattle.choosing.specs.declared.Pair.the-variants.{Taken, None}
 use Rattle.choosing.specs.declared.Descent.{Descent}
-use Rattle.choosing.specs.Choose.{Ready, OnBoard, pairIn}
+use Rattle.choosing.specs.Choose.{pairIn}
 use Rattle.choosing.specs.Descend.{nowhere, roomOf, firstDescent, stoppedAt, givenRooms, downPair, downCut, downToken, Settled}
 use Rattle.choosing.proofs.Pairs.{pair-taken}
 
@@ -63,10 +64,10 @@ all-nowhere P (suc n) zero p = p
 all-nowhere P (suc n) (suc t) p = all-nowhere P n t p
 
 module _ {board : Board} where
-  pub first-settled : {work : List ℕ} (n : ℕ) (s : Shape) → Ready board n work → Settled board (firstDescent n s)
+  pub first-settled : {work : List ℕ} (n : ℕ) (s : Shape) → Lent board n work → Settled board (firstDescent n s)
   unfolding firstDescent
   first-settled n s r =
-      let z : OnBoard board (corner 0 0) = record { column = r .columns .0; row = r .rows .0 } in
+      let z : OnBoard board (corner 0 0) = record { column = r .wide; row = omega (arith, r .high, r .chip) } in
       record {
         on = set-keeps (λ q. OnBoard board (q .corner)) (replicate (2 * mostModules - 1) nowhere) (n - 1) _
             (λ t. all-nowhere (λ q. OnBoard board (q .corner)) (2 * mostModules - 1) t z) z;

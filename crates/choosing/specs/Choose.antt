@@ -1,40 +1,20 @@
 -- Choosing from stored bytes, step by step: the best shape of a slot, and the first pair at a cut.
 use mathlib.Core.Bool.{Bool, true, false, _&&_, _||_}
-use mathlib.Core.List.{List}
-use Prim.Native.Nat.{ℕ, zero, suc, _+_, _-_, _*_, _≤_}
+use Prim.Native.Nat.{ℕ, zero, suc, _+_, _-_, _≤_}
 use lib.Dec.{ltb, eqb}
-use lib.ListN.{length, getD}
 use Rattle.rules.specs.declared.Corner.{Corner}
 use Rattle.rules.specs.declared.Shape.{Shape}
 use Rattle.rules.specs.declared.Direction.{Direction}
 use Rattle.rules.specs.Chip.{shape}
 use Rattle.rules.specs.Placement.{area}
-use Rattle.rules.specs.Slot.{slot, workNeeded, CornerOn}
 use Rattle.rules.specs.Choice.{beside, pairing}
-use Rattle.rules.specs.Design.{mostColumns, mostRows, mostModules}
+use Rattle.rules.specs.Design.{mostColumns, mostRows}
 use Rattle.rules.proofs.Test.{onlyIf, bestWidth, leftShape, rightShape, hasPair}
 use Rattle.slots.specs.declared.Board.{Board}
 use Rattle.choosing.specs.declared.Pair.{Pair}
 use Rattle.choosing.specs.declared.Pair.the-variants.{Taken, None}
 
--- a chip within the limits, and work bytes with room for the slots of n nodes of a tree
-pub record Ready (board : Board) (n : ℕ) (work : List ℕ) : Type 0 where
-  pub columns : (1 ≤ board .width .0) × (board .width .0 ≤ mostColumns)
-  pub rows : (1 ≤ board .height .0) × (board .height .0 ≤ mostRows)
-  pub nodes : (1 ≤ n) × (n ≤ 2 * mostModules - 1)
-  pub room : workNeeded (board .width .0) (board .height .0) n ≤ length work
-
-abbrev pub OnBoard : Board → Corner → Type 0
-OnBoard board c = CornerOn (board .width .0) (board .height .0) c
-
--- the slots of a board's nodes in work bytes
-abbrev pub slotsIn : Board → List ℕ → ℕ → Corner → ℕ → ℕ
-slotsIn board work = slot (board .width .0) (board .height .0) work
-
--- the bytes from an address on, and the shape that one of them stores
-abbrev pub bytesFrom : List ℕ → ℕ → ℕ → ℕ
-bytesFrom work from j = getD work (from + j) 0
-
+-- the shape that a byte of a slot stores
 abbrev pub shapeAt : (ℕ → ℕ) → ℕ → Shape
 shapeAt bytes j = shape (suc j) (bytes j)
 
@@ -96,6 +76,9 @@ pairWith W H d rights c whole s =
       | true ↦ firstPair (pairAt d s whole (rights b)) W
       | false ↦ None
     ]
+
+abbrev pub pairBeside : Board → Direction → (Corner → ℕ → ℕ) → Corner → Shape → Shape → Pair
+pairBeside board d rights c whole s = pairWith (board .width .0) (board .height .0) d rights c whole s
 
 -- the first pair with byte i of the left list
 unfoldable pub pairFrom : ℕ → ℕ → Direction → (Corner → ℕ → ℕ) → (Corner → ℕ → ℕ) → Corner → Shape → ℕ → Pair

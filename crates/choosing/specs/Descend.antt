@@ -13,16 +13,17 @@ use Rattle.rules.specs.declared.Token.{Token}
 use Rattle.rules.specs.declared.Token.the-variants.{Cut, Module, Beyond}
 use Rattle.rules.specs.declared.Design.{Design}
 use Rattle.rules.specs.Chip.{corner, rectangle}
-use Rattle.rules.specs.Tree.{Tree, cut, position}
 use Rattle.rules.specs.Choice.{beside}
-use Rattle.rules.specs.Design.{mostModules, tokenIn, nodes, nodeAt, root, LawfulDesign}
+use Rattle.rules.specs.Design.{mostModules, tokenIn, nodes, root, LawfulDesign}
 use Rattle.rules.proofs.Test.{goesDown, laid}
 use Rattle.slots.specs.declared.Board.{Board}
+use Rattle.slots.specs.Lent.{OnBoard}
+use Rattle.trees.specs.Positions.{LeftChildren}
 use Rattle.choosing.specs.declared.Pair.{Pair}
 use Rattle.choosing.specs.declared.Pair.the-variants.{Taken, None}
 use Rattle.choosing.specs.declared.Descent.{Descent}
 use Rattle.choosing.specs.declared.Layout.{Layout}
-use Rattle.choosing.specs.Choose.{pairIn, OnBoard}
+use Rattle.choosing.specs.Choose.{pairIn}
 
 -- no rectangle yet; the rectangle that a node has been given, and that a module has
 abbrev pub nowhere : Rectangle
@@ -84,10 +85,6 @@ descended board slots tokens lefts (suc t) e = descended board slots tokens left
 pub record Settled (board : Board) (e : Descent) : Type 0 where
   pub on : (t : ℕ) → OnBoard board (roomOf e t .corner)
 
--- the left children's positions of a design's cuts
-pub record Lefts (d : Design) (lefts : List ℕ) : Type 0 where
-  pub left : (t : ℕ) (k : Direction) (l r : Tree) → t < nodes d → nodeAt d t ≡ cut t k l r → getD lefts t 0 ≡ position l
-
 -- going down with no test of the leaves
 abbrev pub anySuits : ℕ → Rectangle → Bool
 anySuits k r = true
@@ -101,4 +98,4 @@ pub record LaidOut (board : Board) (slots : ℕ → Corner → ℕ → ℕ) (d :
 -- of any lawful design with these n tokens and left children
 abbrev pub LaysOut : Board → (ℕ → Corner → ℕ → ℕ) → List ℕ → List ℕ → ℕ → Shape → Layout → Type 0
 LaysOut board slots tokens lefts n s r =
-    (d : Design) → LawfulDesign d → d .tokens ≡ tokens → nodes d ≡ n → Lefts d lefts → LaidOut board slots d s r
+    (d : Design) → LawfulDesign d → d .tokens ≡ tokens → nodes d ≡ n → LeftChildren d lefts → LaidOut board slots d s r

@@ -7,8 +7,9 @@ ghost use Rattle.rules.specs.Chip.{corner};
 ghost use Rattle.rules.specs.Tree.{tokenOf};
 ghost use Rattle.rules.specs.Choice.{beside, pairing};
 ghost use Rattle.rules.specs.Design.{mostColumns, mostModules};
-ghost use Rattle.choosing.specs.Choose.{Ready, OnBoard, Near, slotsIn, Storable, bytesFrom, shapeAt, chosenShape, betterOf};
-ghost use Rattle.choosing.specs.Choose.{pairIn, takenIf, firstOf, firstPair, makesWhole, pairAt, pairWith};
+ghost use Rattle.slots.specs.Lent.{OnBoard, slotsOn, bytesFrom, Lent};
+ghost use Rattle.choosing.specs.Choose.{Near, Storable, shapeAt, chosenShape, betterOf, pairIn, takenIf};
+ghost use Rattle.choosing.specs.Choose.{firstOf, firstPair, makesWhole, pairAt, pairBeside};
 ghost use Rattle.choosing.specs.Descend.{firstDescent, stoppedAt, downLeaf, givenRooms, downCut, downToken, Settled, LaysOut};
 use rules::Columns;
 use rules::Corner;
@@ -89,8 +90,8 @@ fn best_in(work: &[u8], from: usize, width: Columns) -> Shape
 
 // The shape to choose from the list of node t at (0, 0): that of least area, of equals the narrowest; (0, 0) if the list is empty.
 pub fn best_shape(work: &[u8], board: Board, t: usize) -> Shape
-    requires { ⌜ Ready board (suc t) (now work) ⌝ }
-    ensures { λ r. ⌜ r ≡ chosenShape (board .width .0) (slotsIn board (now (work .entry)) t (corner 0 0)) ⌝ }
+    requires { ⌜ Lent board (suc t) (now work) ⌝ }
+    ensures { λ r. ⌜ r ≡ chosenShape (board .width .0) (slotsOn board (now (work .entry)) t (corner 0 0)) ⌝ }
 {
     let origin = Corner {
         x: Columns(0),
@@ -214,8 +215,8 @@ fn pair_with(
     left: Shape,
     whole: Shape,
 ) -> Pair
-    requires { ⌜ Ready board (suc right) (now work) × OnBoard board at × Storable left ⌝ }
-    ensures { λ r. ⌜ r ≡ pairWith (board .width .0) (board .height .0) direction (slotsIn board (now (work .entry)) right) at whole left ⌝ }
+    requires { ⌜ Lent board (suc right) (now work) × OnBoard board at × Storable left ⌝ }
+    ensures { λ r. ⌜ r ≡ pairBeside board direction (slotsOn board (now (work .entry)) right) at whole left ⌝ }
 {
     if left.h.0 == 0 {
         return Pair::None;
@@ -241,8 +242,8 @@ pub fn find_pair(
     at: Corner,
     whole: Shape,
 ) -> Pair
-    requires { ⌜ Ready board (suc left) (now work) × Ready board (suc right) (now work) × OnBoard board at ⌝ }
-    ensures { λ r. ⌜ r ≡ pairIn board (slotsIn board (now (work .entry))) direction left right at whole ⌝ }
+    requires { ⌜ Lent board (suc left) (now work) × Lent board (suc right) (now work) × OnBoard board at ⌝ }
+    ensures { λ r. ⌜ r ≡ pairIn board (slotsOn board (now (work .entry))) direction left right at whole ⌝ }
 {
     let from = slot_start(board, left, at);
     let mut pair = Pair::None;
@@ -315,8 +316,8 @@ fn down_cut(
     t: usize,
     descent: Descent,
 ) -> Descent
-    requires { ⌜ Ready board (suc t) (now work) × Settled board descent × (left ≤ 255) ⌝ }
-    ensures { λ r. ⌜ r ≡ downCut board (slotsIn board (now (work .entry))) direction left t descent ⌝ }
+    requires { ⌜ Lent board (suc t) (now work) × Settled board descent × (left ≤ 255) ⌝ }
+    ensures { λ r. ⌜ r ≡ downCut board (slotsOn board (now (work .entry))) direction left t descent ⌝ }
 {
     if t <= left + 1 {
         return stopped(descent);
@@ -340,8 +341,8 @@ fn down_cut(
 
 // Going down at node t, whose token has this value; if it is a cut, its left child stands at this position.
 fn down_node(work: &[u8], board: Board, v: u8, left: u8, t: usize, descent: Descent) -> Descent
-    requires { ⌜ Ready board (suc t) (now work) × Settled board descent ⌝ }
-    ensures { λ r. ⌜ r ≡ downToken board (slotsIn board (now (work .entry))) (tokenOf mostModules v) left t descent ⌝ }
+    requires { ⌜ Lent board (suc t) (now work) × Settled board descent ⌝ }
+    ensures { λ r. ⌜ r ≡ downToken board (slotsOn board (now (work .entry))) (tokenOf mostModules v) left t descent ⌝ }
 {
     let token = token_of(v);
     match token {
@@ -389,8 +390,8 @@ pub fn lay_out(
     work: &[u8],
     shape: Shape,
 ) -> Layout
-    requires { ⌜ Ready board nodes (now work) ⌝ }
-    ensures { λ r. ⌜ LaysOut board (slotsIn board (now (work .entry))) tokens lefts nodes shape r ⌝ }
+    requires { ⌜ Lent board nodes (now work) × (1 ≤ nodes) ⌝ }
+    ensures { λ r. ⌜ LaysOut board (slotsOn board (now (work .entry))) tokens lefts nodes shape r ⌝ }
 {
     let mut descent = first_descent(nodes, shape);
     let mut t = nodes;

@@ -8,14 +8,14 @@ use native.Mathlib.Decide.{decLe}
 use lib.ListN.{getD, replicate, length-replicate, getD-replicate}
 use Rattle.rules.specs.declared.Direction.{Direction}
 use Rattle.rules.specs.declared.Corner.{Corner}
-use Rattle.rules.specs.Slot.{slotStart}
 use Rattle.slots.specs.declared.Board.{Board}
-use Rattle.slots.specs.Written.{Filled, SlotIs}
+use Rattle.slots.specs.Written.{Filled}
+use Rattle.slots.specs.Lent.{OnBoard, startOn, Lent, SlotOn}
 use Rattle.slots.proofs.Filling.{same-filled, slot-filled}
-use Rattle.cuts.specs.Cut.{filledSize, Roomy, lineSize, topsSize, OnBoard, TailsNone, boxTop, leastTop, keptByte, laidSlot, TopsAre}
+use Rattle.cuts.specs.Cut.{filledSize, lineSize, topsSize, TailsNone, boxTop, leastTop, keptByte, laidSlot, TopsAre}
+use Rattle.slots.proofs.Lending.{last-lent}
 use Rattle.cuts.proofs.Least.{least-found}
 use Rattle.cuts.proofs.Tops.{top-out}
-use Rattle.cuts.proofs.Filling.{slot-fits}
 
 -- buffers that hold no top side yet
 pub fresh-tops : (x H : ℕ) → TopsAre x (λ _. suc H) (replicate topsSize (H + 1))
@@ -48,13 +48,13 @@ module _ (d : Direction) (B : Board) (tops : ℕ → ℕ → ℕ) (c : Corner) (
   pub tops-above : (b : ℕ) → c .x .0 ≤ b → b < topsSize → c .y .0 ≤ getD held b 0
   tops-above b h k = rw (z .at b h k) (above d B tops c bytes (B .width .0 - c .x .0) b on)
 
-  pub corner-cut : (t : ℕ) {work work' : List ℕ} {base : ℕ} → Roomy B t work
-      → base ≡ slotStart (B .width .0) (B .height .0) t c
+  pub corner-cut : (t : ℕ) {work work' : List ℕ} {base : ℕ} → Lent B (suc t) work
+      → base ≡ startOn B t c
       → Filled work base (B .width .0) (λ j. keptByte (c .y .0) (getD held (c .x .0 + j) 0) (getD held (c .x .0 + suc j) 0)) work'
-      → SlotIs (B .width .0) (B .height .0) t c (laidSlot d B tops c bytes) work work'
+      → SlotOn B t c (laidSlot d B tops c bytes) work work'
   unfolding laidSlot
   corner-cut t {work} {work'} r e k =
-      slot-filled (B .width .0) (B .height .0) t c (laidSlot d B tops c bytes) work work' (slot-fits r on)
+      slot-filled (B .width .0) (B .listed .0) t c (laidSlot d B tops c bytes) work work' (last-lent r on)
       (same-filled (laidSlot d B tops c bytes) (rw e at k) (λ j h.
       let x = on .column in let w = r .columns in
       rw (z .at (c .x .0 + j) (omega arith) (omega arith), z .at (c .x .0 + suc j) (omega arith) (omega arith))))

@@ -5,39 +5,21 @@ use mathlib.Core.Logic.{_⊎_, inl, inr}
 use mathlib.Core.List.{List}
 use Prim.Native.Nat.{ℕ, suc, _+_, _-_, _*_, _≤_, _<_, min, max}
 use native.Mathlib.Omega.{arith}
-use native.Mathlib.Nat.{le-refl, add-assoc, mul-le-mul-right}
+use native.Mathlib.Nat.{le-refl, add-assoc}
 use native.Mathlib.Decide.{decLt, ℕ-discrete}
 use lib.ListN.{length, getD, set}
 use Rattle.rules.specs.declared.Direction.{Direction}
 use Rattle.rules.specs.declared.Direction.the-variants.{Vertical, Horizontal}
 use Rattle.rules.specs.declared.Corner.{Corner}
 use Rattle.rules.specs.Design.{mostColumns, mostRows}
-use Rattle.rules.specs.Slot.{slot, slotStart}
 use Rattle.rules.proofs.Test.{across}
-use Rattle.rules.proofs.Working.{slot-within}
 use Rattle.slots.specs.declared.Board.{Board}
 use Rattle.slots.specs.Written.{Filled}
+use Rattle.slots.specs.Lent.{OnBoard, startOn, slotsOn, bytesFrom, Lent}
 use Rattle.slots.proofs.Filling.{one-filled, then-filled, same-length, filled-at, filled-out}
-use Rattle.cuts.specs.Cut.{mostPlaces, filledSize, Roomy, chunk, slotsOn, OnBoard, cornerAt, lines, places, lowered, leastOf, slotTop, bytesFrom, heldTop, TailsNone, LineFilled, laidTop, Laid}
+use Rattle.cuts.specs.Cut.{mostPlaces, filledSize, chunk, cornerAt, lines, places, lowered, leastOf, slotTop, heldTop, TailsNone, LineFilled, laidTop, Laid}
+use Rattle.slots.proofs.Lending.{slot-bytes}
 use Rattle.cuts.proofs.Least.{least-start}
-
--- a slot ends before the lent bytes do, also that of a node before
-pub slot-fits : {board : Board} {t : ℕ} {work : List ℕ} {c : Corner} → Roomy board t work → OnBoard board c
-    → slotStart (board .width .0) (board .height .0) t c + board .width .0 ≤ length work
-slot-fits {board} {t} {work} {c} r on =
-    let x = on .column in let h = r .bytes in
-    omega (arith, slot-within (board .width .0) (board .height .0) (suc t) t (board .width .0 - 1) c (omega arith) on (omega arith))
-
-pub roomy-child : {board : Board} {t : ℕ} {work : List ℕ} (s : ℕ) → Roomy board t work → s < t → Roomy board s work
-roomy-child {board} {t} s r h =
-    let W = board .width .0 in let H = board .height .0 in let n = r .node in let b = r .bytes in
-    let p : suc s * H ≤ suc t * H = mul-le-mul-right H (omega arith) in
-    let q : suc s * H * W * W ≤ suc t * H * W * W = mul-le-mul-right W (mul-le-mul-right W p) in
-    record { columns = r .columns; rows = r .rows; node = omega arith; bytes = omega arith }
-
-pub roomy-same : {board : Board} {t : ℕ} {work work' : List ℕ} → Roomy board t work → length work' ≡ length work
-    → Roomy board t work'
-roomy-same r e = record { columns = r .columns; rows = r .rows; node = r .node; bytes = rw e (r .bytes) }
 
 -- filling: one height more
 pub least-next : (s : ℕ) (f : ℕ → ℕ) (j : ℕ) {low r : ℕ} → low ≡ leastOf s f j → r ≡ lowered low (f j)
@@ -123,8 +105,7 @@ filled-laid {v} {w} {a} {k} {f} n e h h' l = record {
 
 -- the slot that starts there
 pub corner-filled : (board : Board) (t : ℕ) (c : Corner) (work : List ℕ) {before after : List ℕ} {to n from : ℕ}
-    → from ≡ slotStart (board .width .0) (board .height .0) t c
+    → from ≡ startOn board t c
     → Filled before to n (λ j. slotTop (board .height .0) (c .y .0) (bytesFrom work from) (suc j)) after
     → Filled before to n (λ j. slotTop (board .height .0) (c .y .0) (slotsOn board work t c) (suc j)) after
-unfolding slot
-corner-filled board t c work e f = rw e at f
+corner-filled board t c work e f = rw (slot-bytes board t c work e) at f

@@ -13,10 +13,11 @@ use lib.ListN.{getD}
 use Rattle.rules.specs.declared.Direction.{Direction}
 use Rattle.rules.specs.declared.Direction.the-variants.{Vertical, Horizontal}
 use Rattle.rules.specs.declared.Corner.{Corner}
-use Rattle.rules.specs.Slot.{slot, slotStart}
+use Rattle.rules.specs.Slot.{slot}
 use Rattle.rules.proofs.Test.{across, onlyIf}
 use Rattle.slots.specs.declared.Board.{Board}
-use Rattle.cuts.specs.Cut.{mostPlaces, filledSize, Roomy, topsSize, slotsOn, OnBoard, places, firstRight, lowered, leastOf, heldTop, TailsNone, hasBox, greaterTop, boxTop, leastTop, TopsAre, Pairable, laidTop, Laid}
+use Rattle.cuts.specs.Cut.{mostPlaces, filledSize, topsSize, places, firstRight, lowered, leastOf, heldTop, TailsNone, hasBox, greaterTop, boxTop, leastTop, TopsAre, Pairable, laidTop, Laid}
+use Rattle.slots.specs.Lent.{OnBoard, startOn, slotsOn, Lent}
 use Rattle.cuts.proofs.Least.{lowered-none, lowered-some, least-start}
 use Rattle.cuts.proofs.Tops.{Meets, meets-out, top-in}
 
@@ -104,12 +105,12 @@ module _ (d : Direction) (board : Board) (work line : List ℕ) (left : ℕ) (c 
   shapes-none z = record { long = z .long; at = z .at }
 
   pub shapes-next : {tops after : List ℕ} {from : ℕ} (i : ℕ)
-      → from ≡ slotStart (board .width .0) (board .height .0) left c → TopsAre (c .x .0) (after-shapes i) tops
+      → from ≡ startOn board left c → TopsAre (c .x .0) (after-shapes i) tops
       → TopsAre (c .x .0) (λ b. lowered (getD tops b 0) (boxTop d board (heldTop line) c i (getD work (from + i) 0) b)) after → TopsAre (c .x .0) (after-shapes (i + 1)) after
   unfolding leastTop leastOf slot
   shapes-next i e z y = record { long = y .long; at = λ b h k. rw add-one (y .at b h k ∙ rw (e, z .at b h k)) }
 
-  pub can-pair : {tops : List ℕ} {t : ℕ} (n : ℕ) → Roomy board t work → OnBoard board c → TailsNone board line
+  pub can-pair : {tops : List ℕ} {t : ℕ} (n : ℕ) → Lent board (suc t) work → OnBoard board c → TailsNone board line
       → TopsAre (c .x .0) (after-shapes n) tops → Pairable board c line tops
   unfolding leastTop
   can-pair n r on tails z = record {

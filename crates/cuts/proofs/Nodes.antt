@@ -4,7 +4,7 @@ use mathlib.Core.Path.{_≡_, refl, sym, _∙_}
 use mathlib.Core.Logic.{_⊎_, inl, inr, ⊎-elim}
 use mathlib.Core.Bool.{Bool, So}
 use mathlib.Core.List.{List}
-use Prim.Native.Nat.{ℕ, suc, _+_, _-_, _<_}
+use Prim.Native.Nat.{ℕ, suc, _+_, _-_, _≤_, _<_}
 use native.Mathlib.Omega.{arith}
 use native.Mathlib.Decide.{ℕ-discrete}
 use Rattle.rules.specs.declared.Direction.{Direction}
@@ -16,11 +16,12 @@ use Rattle.rules.proofs.Searching.{know, test-iffs}
 use Rattle.rules.proofs.Working.{slots-apart}
 use Rattle.rules.proofs.Listing.{same-list, list-unique}
 use Rattle.rules.proofs.Pairing.{pairings-bytes}
-use Rattle.rules.proofs.Agreeing.{Agree, agree-back, paired-agree}
+use Rattle.rules.proofs.Agreeing.{Agree, on-more-rows, agree-on, agree-back, paired-agree}
 use Rattle.slots.specs.declared.Board.{Board}
-use Rattle.slots.specs.Written.{SlotIs, PartIs, NodeIs}
+use Rattle.slots.specs.Written.{SlotIs, PartIs}
+use Rattle.slots.specs.Lent.{OnBoard, ListedOn, slotsOn, SlotOn, PartOn, NodeOn}
 use Rattle.slots.proofs.Writing.{SameCorner, same-corner, one-done, all-done}
-use Rattle.cuts.specs.Cut.{pairedSlot, slotsOn, OnBoard, cornerAt, lineOf, placeOf, places, lineTop, heldTop, LineFilled, leastTop, laidSlot, onLine, beforeLine}
+use Rattle.cuts.specs.Cut.{pairedSlot, cornerAt, lineOf, placeOf, lines, places, lineTop, heldTop, LineFilled, leastTop, laidSlot, onLine, beforeLine}
 use Rattle.cuts.proofs.Least.{least-same}
 use Rattle.cuts.proofs.Tops.{laid-paired, filled-tops}
 
@@ -55,16 +56,17 @@ part-then {W} {H} {t} {f} {f'} {done} {done'} {before} {mid} {after} all p q out
 }
 
 -- a cut's slot hangs on its children's bytes alone
-pub paired-same : (d : Direction) (W H : ℕ) (work work' : List ℕ) (left right : ℕ)
-    → Agree W H (slot W H work left) (slot W H work' left)
-    → Agree W H (slot W H work right) (slot W H work' right) → (c : Corner) → CornerOn W H c → (j : ℕ) → j < W
-    → pairedSlot d W H work left right c j ≡ pairedSlot d W H work' left right c j
+pub paired-same : (d : Direction) (B : Board) → B .height .0 ≤ B .listed .0 → (work work' : List ℕ) (left right : ℕ)
+    → Agree (B .width .0) (B .listed .0) (slotsOn B work left) (slotsOn B work' left)
+    → Agree (B .width .0) (B .listed .0) (slotsOn B work right) (slotsOn B work' right) → (c : Corner) → OnBoard B c → (j : ℕ) → j < B .width .0
+    → pairedSlot d B work left right c j ≡ pairedSlot d B work' left right c j
 unfolding pairedSlot
-paired-same d W H work work' left right l r c on =
-    list-unique W (pairedSlot d W H work left right c) (pairedSlot d W H work' left right c)
-    (same-list W (pairedSlot d W H work left right c) (pairedSlot d W H work left right c) (λ j h. refl) (λ s. (paired-agree W H d l r c on s, paired-agree W H d (agree-back l) (agree-back r) c on s))
-    (pairings-bytes W H d (slot W H work left) (slot W H work right) c))
-    (pairings-bytes W H d (slot W H work' left) (slot W H work' right) c)
+paired-same d B every work work' left right l r c on =
+    let W = B .width .0 in let H = B .height .0 in let l' = agree-on every l in let r' = agree-on every r in
+    list-unique W (pairedSlot d B work left right c) (pairedSlot d B work' left right c)
+    (same-list W (pairedSlot d B work left right c) (pairedSlot d B work left right c) (λ j h. refl) (λ s. (paired-agree W H d l' r' c on s, paired-agree W H d (agree-back l') (agree-back r') c on s))
+    (pairings-bytes W H d (slotsOn B work left) (slotsOn B work right) c))
+    (pairings-bytes W H d (slotsOn B work' left) (slotsOn B work' right) c)
 
 -- a corner is at its place on its line
 at-place : (d : Direction) (on p : ℕ) → (lineOf d (cornerAt d on p) ≡ on) × (placeOf d (cornerAt d on p) ≡ p)
@@ -84,12 +86,12 @@ on-line Horizontal W H c on = (on .column, on .row)
 -- the slot that is laid at a corner of the line, from the bytes as they now stand, is the one that the bytes at the
 -- start ask for
 pub slot-laid : (d : Direction) (B : Board) (t left right on p : ℕ) (start work : List ℕ) {c : Corner} {after line : List ℕ} → LineFilled d B (slotsOn B start right) on (places d B) line
-    → c ≡ cornerAt d on p → OnBoard B c
-    → Agree (B .width .0) (B .height .0) (slotsOn B work left) (slotsOn B start left)
-    → SlotIs (B .width .0) (B .height .0) t c (laidSlot d B (heldTop line) c (slotsOn B work left c)) work after
-    → SlotIs (B .width .0) (B .height .0) t c (pairedSlot d (B .width .0) (B .height .0) start left right c) work after
+    → c ≡ cornerAt d on p → OnBoard B c → ListedOn B c
+    → Agree (B .width .0) (B .listed .0) (slotsOn B work left) (slotsOn B start left)
+    → SlotOn B t c (laidSlot d B (heldTop line) c (slotsOn B work left c)) work after
+    → SlotOn B t c (pairedSlot d B start left right c) work after
 unfolding pairedSlot laidSlot leastTop
-slot-laid d B t left right on p start work {c} {after} {line} l e o a z = record { long = z .long; inside = λ j h. z .inside j h ∙ is j; outside = z .outside }
+slot-laid d B t left right on p start work {c} {after} {line} l e o o' a z = record { long = z .long; inside = λ j h. z .inside j h ∙ is j; outside = z .outside }
   where
     n : ℕ
     n = B .width .0 - c .x .0
@@ -100,11 +102,11 @@ slot-laid d B t left right on p start work {c} {after} {line} l e o a z = record
     tops-are : (b : ℕ)
         → leastTop d B (heldTop line) c (slotsOn B work left c) n b ≡ leastTop d B (lineTop d B (slotsOn B start right) (lineOf d c)) c (slotsOn B start left c) n b
     tops-are b =
-        least-same _ _ _ n (λ i k. rw (a .at c o i (omega arith)))
+        least-same _ _ _ n (λ i k. rw (a .at c o' i (omega arith)))
         ∙ filled-tops d B (slotsOn B start right) c line l' (slotsOn B start left c) n b
 
     is : (j : ℕ)
-        → laidSlot d B (heldTop line) c (slotsOn B work left c) j ≡ pairedSlot d (B .width .0) (B .height .0) start left right c j
+        → laidSlot d B (heldTop line) c (slotsOn B work left c) j ≡ pairedSlot d B start left right c j
     is j =
         let r = o .row in
         rw (tops-are (c .x .0 + j), tops-are (c .x .0 + suc j)) (laid-paired d B (slotsOn B start left) (slotsOn B start right) c j (omega arith))
@@ -129,27 +131,25 @@ module _ (d : Direction) (W H t on : ℕ) (f : Corner → ℕ → ℕ) where
       out c' a b (no h) = inl (simp test-iffs (a, omega arith))
 
 -- the lines one after the other
-module _ (d : Direction) (W H t left right : ℕ) (start : List ℕ) where
+module _ (d : Direction) (B : Board) (t left right : ℕ) (start : List ℕ) (chip : B .listed .0 ≤ B .height .0) where
   abbrev slots : Corner → ℕ → ℕ
-  slots = pairedSlot d W H start left right
+  slots = pairedSlot d B start left right
 
-  pub no-line : PartIs W H t slots (beforeLine d 0) start start
+  pub no-line : PartOn B t slots (beforeLine d 0) start start
   no-line = record { long = refl; inside = λ c _ s. let h = simp test-iffs at s in absurd (omega arith); outside = λ i h. refl }
 
-  pub line-done : (on : ℕ) {mid after : List ℕ} → left < t → right < t → PartIs W H t slots (beforeLine d on) start mid
-      → PartIs W H t (pairedSlot d W H mid left right) (onLine d on (across d W H)) mid after
-      → PartIs W H t slots (beforeLine d (on + 1)) start after
-  line-done on {mid} {after} l r p q =
+  pub line-done : (on : ℕ) {mid after : List ℕ} → B .height .0 ≤ B .listed .0 → left < t → right < t → PartOn B t slots (beforeLine d on) start mid
+      → PartOn B t (pairedSlot d B mid left right) (onLine d on (places d B)) mid after → PartOn B t slots (beforeLine d (on + 1)) start after
+  line-done on {mid} {after} every l r p q =
       part-then (beforeLine d (on + 1)) p q (λ c o s. let h = simp test-iffs at s in out c o h (ℕ-discrete (lineOf d c) on))
       (λ c s. let h = simp test-iffs at s in simp test-iffs (omega arith)) (λ c s. let (a, b) = simp test-iffs at s in simp test-iffs (omega arith))
-      (paired-same d W H mid start left right (node-kept p left (λ e. omega arith)) (node-kept p right (λ e. omega arith)))
+      (λ c o. paired-same d B every mid start left right (node-kept p left (λ e. omega arith)) (node-kept p right (λ e. omega arith)) c (on-more-rows chip o))
     where
-      out : (c : Corner) → CornerOn W H c → lineOf d c < on + 1 → Dec (lineOf d c ≡ on)
-          → So (beforeLine d on c) ⊎ So (onLine d on (across d W H) c)
-      out c o h (yes e) = inr (simp test-iffs (e, on-line d W H c o .1))
+      out : (c : Corner) → ListedOn B c → lineOf d c < on + 1 → Dec (lineOf d c ≡ on) → So (beforeLine d on c) ⊎ So (onLine d on (places d B) c)
+      out c o h (yes e) = inr (simp test-iffs (e, on-line d (B .width .0) (B .height .0) c (on-more-rows chip o) .1))
       out c o h (no e) = inl (simp test-iffs (omega arith))
 
-  pub lines-done : {after : List ℕ} → PartIs W H t slots (beforeLine d (across d H W)) start after
-      → NodeIs W H t slots start after
+  pub lines-done : {after : List ℕ} → PartOn B t slots (beforeLine d (lines d B)) start after → NodeOn B t slots start after
   lines-done {after} p =
-      all-done W H t slots (beforeLine d (across d H W)) start after (λ c o. simp test-iffs (on-line d W H c o .0)) p
+      all-done (B .width .0) (B .listed .0) t slots (beforeLine d (lines d B)) start after
+      (λ c o. simp test-iffs (on-line d (B .width .0) (B .height .0) c (on-more-rows chip o) .0)) p

@@ -12,30 +12,23 @@ use lib.ListN.{length, getD}
 use Rattle.rules.specs.declared.Direction.{Direction}
 use Rattle.rules.specs.declared.Corner.{Corner}
 use Rattle.rules.specs.Chip.{corner}
-use Rattle.rules.specs.Slot.{slot, workNeeded, CornerOn}
 use Rattle.rules.specs.Design.{mostColumns, mostRows}
 use Rattle.rules.proofs.Test.{grid, across, onlyIf, listByte, pairTest}
 use Rattle.slots.specs.declared.Board.{Board}
-use Rattle.slots.specs.Written.{Filled, SlotIs, PartIs, NodeIs}
+use Rattle.slots.specs.Written.{Filled}
+use Rattle.slots.specs.Lent.{OnBoard, slotsOn, bytesFrom, Lent, SlotOn, PartOn, NodeOn}
 
--- what a node's slots ask of the chip's size and of the lent bytes
-pub record Roomy (board : Board) (t : ℕ) (work : List ℕ) : Type 0 where
-  pub columns : board .width .0 ≤ mostColumns
-  pub rows : board .height .0 ≤ mostRows
-  pub node : t < 128
-  pub bytes : workNeeded (board .width .0) (board .height .0) (suc t) ≤ length work
-
--- and what a cut's slots ask: its children are nodes before it
+-- what a cut's slots ask: its children are nodes before it
 pub record Cuttable (board : Board) (t left right : ℕ) (work : List ℕ) : Type 0 where
-  pub room : Roomy board t work
+  pub lent : Lent board (suc t) work
   pub first : left < t
   pub second : right < t
 
--- the slots that a cut node is to have, from its children's: "the undominated ones among all pairings of the children's
--- stored shapes"
-unfoldable pub pairedSlot : Direction → ℕ → ℕ → List ℕ → ℕ → ℕ → Corner → ℕ → ℕ
-pairedSlot d W H work left right c =
-    listByte H (pairTest d W H (grid (slot W H work left)) (grid (slot W H work right))) (c .x .0) (c .y .0)
+-- the slots that a cut node is to have, from its children's: "the undominated ones among all pairings of the children's stored shapes"
+unfoldable pub pairedSlot : Direction → Board → List ℕ → ℕ → ℕ → Corner → ℕ → ℕ
+pairedSlot d B work left right c =
+    let W = B .width .0 in let H = B .height .0 in
+    listByte H (pairTest d W H (grid (slotsOn B work left)) (grid (slotsOn B work right))) (c .x .0) (c .y .0)
 
 -- The sizes of the code's buffers. A line has as many places as the chip has columns or rows. `chunk` top sides are
 -- laid at a time, so a filled slot and a corner's top sides have that many bytes more than there are right sides.
@@ -53,13 +46,6 @@ lineSize = mostPlaces * filledSize
 
 abbrev pub topsSize : ℕ
 topsSize = 2 * mostColumns + chunk
-
--- the slots on a board, and the corners
-abbrev pub slotsOn : Board → List ℕ → ℕ → Corner → ℕ → ℕ
-slotsOn B work t = slot (B .width .0) (B .height .0) work t
-
-abbrev pub OnBoard : Board → Corner → Type 0
-OnBoard B c = CornerOn (B .width .0) (B .height .0) c
 
 -- The lines of corners that a cut's pairs stay on: a vertical cut's is a row of corners, a horizontal cut's a column.
 abbrev pub cornerAt : Direction → ℕ → ℕ → Corner
@@ -95,10 +81,6 @@ leastOf start f (suc n) = lowered (leastOf start f n) (f n)
 unfoldable pub slotTop : ℕ → ℕ → (ℕ → ℕ) → ℕ → ℕ
 slotTop H y bytes n = y + leastOf (suc (H - y)) bytes n
 
--- n bytes of a list, from a place on
-abbrev pub bytesFrom : List ℕ → ℕ → ℕ → ℕ
-bytesFrom l from k = getD l (from + k) 0
-
 -- n bytes of a slot at row y, which stands in work from `from` on, are filled into a line from `to` on; the slot of a
 -- node at a corner, whose right sides start behind `to`
 abbrev pub SlotFilled : ℕ → ℕ → List ℕ → ℕ → ℕ → ℕ → List ℕ → List ℕ → Type 0
@@ -132,13 +114,13 @@ abbrev pub WholeLine : Direction → Board → List ℕ → ℕ → ℕ → List
 WholeLine d B work t line filled = LineFilled d B (slotsOn B work t) line (places d B) filled
 
 -- what filling a line asks: it is a line of the board, and past the chip its bytes hold no top side
-pub record LineRoom (d : Direction) (B : Board) (line : ℕ) (filled : List ℕ) : Type 0 where
+pub record Fillable (d : Direction) (B : Board) (line : ℕ) (filled : List ℕ) : Type 0 where
   pub on : line < lines d B
   pub tails : TailsNone B filled
 
 -- what a corner's slot asks
-pub record CornerRoom (B : Board) (t : ℕ) (c : Corner) (work filled : List ℕ) : Type 0 where
-  pub room : Roomy B t work
+pub record CornerReady (B : Board) (t : ℕ) (c : Corner) (work filled : List ℕ) : Type 0 where
+  pub lent : Lent B (suc t) work
   pub corner : OnBoard B c
   pub tails : TailsNone B filled
 
@@ -235,7 +217,7 @@ SlotKept base n c tops before after =
 -- the slot of a cut node at a corner is written from a filled line
 abbrev pub CornerCut : Direction → Board → List ℕ → ℕ → ℕ → Corner → List ℕ → List ℕ → Type 0
 CornerCut d B line t left c before after =
-    SlotIs (B .width .0) (B .height .0) t c (laidSlot d B (heldTop line) c (slotsOn B before left c)) before after
+    SlotOn B t c (laidSlot d B (heldTop line) c (slotsOn B before left c)) before after
 
 -- the corners at the first n places of a line, and those of all lines before one
 abbrev pub onLine : Direction → ℕ → ℕ → Corner → Bool
@@ -245,13 +227,10 @@ abbrev pub beforeLine : Direction → ℕ → Corner → Bool
 beforeLine d line c = ltb (lineOf d c) line
 
 -- the slots of a cut node are those of its children's pairings, at the corners of a line, and at all
-abbrev pub pairedOn : Direction → Board → List ℕ → ℕ → ℕ → Corner → ℕ → ℕ
-pairedOn d B work left right = pairedSlot d (B .width .0) (B .height .0) work left right
-
 abbrev pub LineCut : Direction → Board → ℕ → ℕ → ℕ → ℕ → List ℕ → List ℕ → Type 0
 LineCut d B t left right line before after =
-    PartIs (B .width .0) (B .height .0) t (pairedOn d B before left right) (onLine d line (places d B)) before after
+    PartOn B t (pairedSlot d B before left right) (onLine d line (places d B)) before after
 
 abbrev pub NodeCut : Direction → Board → ℕ → ℕ → ℕ → List ℕ → List ℕ → Type 0
 NodeCut d B t left right before after =
-    NodeIs (B .width .0) (B .height .0) t (pairedOn d B before left right) before after
+    NodeOn B t (pairedSlot d B before left right) before after

@@ -11,11 +11,12 @@ use rules::Rows;
 use slots::Board;
 use slots::slot_start;
 ghost use mathlib.Core.Path.{_≡_};
-ghost use Prim.Native.Nat.{_+_, _≤_, _<_, min, max};
+ghost use Prim.Native.Nat.{suc, _+_, _≤_, _<_, min, max};
 ghost use lib.ListN.{length};
 ghost use Rattle.rules.proofs.Test.{across};
+ghost use Rattle.slots.specs.Lent.{OnBoard, Lent};
 ghost use Rattle.cuts.specs.Cut.{chunk, filledSize, lineSize, topsSize};
-ghost use Rattle.cuts.specs.Cut.{Roomy, Cuttable, OnBoard, LineRoom, CornerRoom, Pairable, Layable, Keepable};
+ghost use Rattle.cuts.specs.Cut.{Cuttable, Fillable, CornerReady, Pairable, Layable, Keepable};
 ghost use Rattle.cuts.specs.Cut.{cornerAt, placeOf, lines, places, lowered, keptByte};
 ghost use Rattle.cuts.specs.Cut.{SlotFilled, CornerFilled, WholeLine, RunLaid, SlotLaid, BoxLaid, CornerLaid};
 ghost use Rattle.cuts.specs.Cut.{TailsNone, NoTops, SlotKept, CornerCut, LineCut, NodeCut};
@@ -152,7 +153,7 @@ fn fill_corner(
     line: &mut [u8; LINE_SIZE],
     to: usize,
 )
-    requires { ⌜ Roomy board t (now work) × OnBoard board at × (to + filledSize ≤ lineSize) ⌝ }
+    requires { ⌜ Lent board (suc t) (now work) × OnBoard board at × (to + filledSize ≤ lineSize) ⌝ }
     ensures { λ _. ⌜ CornerFilled board (now (work .entry)) t at to (now (line .entry)) (now (line .exit)) ⌝ }
 {
     let from = slot_start(board, t, at);
@@ -177,7 +178,7 @@ fn fill_line(
     on: Line,
     line: &mut [u8; LINE_SIZE],
 )
-    requires { ⌜ Roomy board t (now work) × LineRoom direction board (on .0) (now line) ⌝ }
+    requires { ⌜ Lent board (suc t) (now work) × Fillable direction board (on .0) (now line) ⌝ }
     ensures { λ _. ⌜ WholeLine direction board (now (work .entry)) t (on .0) (now (line .exit)) ⌝ }
 {
     let places = places(direction, board);
@@ -266,7 +267,7 @@ fn pair_corner(
     line: &[u8; LINE_SIZE],
     tops: &mut [u8; TOPS_SIZE],
 )
-    requires { ⌜ CornerRoom board left at (now work) (now line) × NoTops board at (now tops) ⌝ }
+    requires { ⌜ CornerReady board left at (now work) (now line) × NoTops board at (now tops) ⌝ }
     ensures { λ _. ⌜ CornerLaid direction board (now (line .entry)) (now (work .entry)) left at (now (tops .exit)) ⌝ }
 {
     let from = slot_start(board, left, at);
@@ -307,7 +308,7 @@ fn cut_corner(
     at: Corner,
     line: &[u8; LINE_SIZE],
 )
-    requires { ⌜ CornerRoom board t at (now work) (now line) × (left < t) ⌝ }
+    requires { ⌜ CornerReady board t at (now work) (now line) × (left < t) ⌝ }
     ensures { λ _. ⌜ CornerCut direction board (now (line .entry)) t left at (now (work .entry)) (now (work .exit)) ⌝ }
 {
     let none = (board.height.0 + 1) as u8;
@@ -328,7 +329,7 @@ fn cut_line(
     on: Line,
     line: &mut [u8; LINE_SIZE],
 )
-    requires { ⌜ Cuttable board t left right (now work) × LineRoom direction board (on .0) (now line) ⌝ }
+    requires { ⌜ Cuttable board t left right (now work) × Fillable direction board (on .0) (now line) ⌝ }
     ensures { λ _. ⌜ LineCut direction board t left right (on .0) (now (work .entry)) (now (work .exit)) ⌝ }
     ensures { λ _. ⌜ TailsNone board (now (line .exit)) ⌝ }
 {

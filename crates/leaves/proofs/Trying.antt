@@ -16,18 +16,19 @@ use borrow.Author.Tests.{lt-ltb, le-ltb, le-leb, lt-leb, ne-eqb}
 use Rattle.rules.specs.declared.Chip.{Chip}
 use Rattle.rules.specs.declared.Corner.{Corner}
 use Rattle.rules.specs.declared.Need.{Need}
+use Rattle.rules.specs.declared.Rows.{Rows}
 use Rattle.rules.specs.Chip.{kindAt}
 use Rattle.rules.specs.Design.{mostColumns}
-use Rattle.rules.specs.Slot.{slotStart}
 use Rattle.rules.proofs.Test.{onlyIf, listByte, suitsRoom}
 use Rattle.rules.proofs.Limits.{ChipLimits, chip-limits}
 use Rattle.rules.proofs.Rooms.{Rising, rising}
 use Rattle.rules.proofs.Suiting.{suits-growing}
 use Rattle.slots.specs.declared.Board.{Board}
 use Rattle.slots.specs.Written.{Filled}
+use Rattle.slots.specs.Lent.{startOn}
 use Rattle.slots.proofs.Filling.{same-filled, slot-filled}
 use Rattle.leaves.specs.declared.ByKind.{ByKind}
-use Rattle.leaves.specs.Leaf.{leafBytes, CornerRoom, LeafRoom, SlotListed, suitsIn, FewerThan, Within, StopsAt, byKind, oneMore, heightTo, trialTop, trialHeight, Trials, listedOf}
+use Rattle.leaves.specs.Leaf.{leafBytes, chipOn, CornerReady, SlotReady, SlotListed, suitsIn, FewerThan, Within, StopsAt, byKind, oneMore, heightTo, trialTop, trialHeight, Trials, listedOf}
 use Rattle.leaves.proofs.Counting.{countsOf, suits-is, counts-none, counts-next, counts-most}
 use Rattle.leaves.proofs.Lowering.{lowest-from, lowest-none, lowest-next}
 
@@ -42,7 +43,7 @@ none-tried (suc n) (suc j) = none-tried n j
 
 -- what stands when n widths have been tried at a corner
 pub record Tried (C : Chip) (need : Need) (c : Corner) (n : ℕ) (counts : ByKind) (far : ℕ) (heights : List ℕ) : Type 0 where
-  pub room : CornerRoom C c
+  pub ready : CornerReady C c
   pub columns : counts ≡ countsOf C (c .x .0) n
   pub top : far ≡ trialTop C need c n
   pub long : length heights ≡ mostColumns
@@ -72,25 +73,25 @@ listed-height H c t t' p q p' q' = go (decLe t H) (decLe t' H) (decLt t t')
     go (yes h) (yes k) (no l) =
         simp (le-leb t H h, le-leb t' H k, some t p, some t' p', le-ltb t t' (omega arith), le-ltb (t - c) (t' - c) (omega arith))
 
-module _ (C : Chip) (need : Need) (c : Corner) (room : CornerRoom C c) where
+module _ (C : Chip) (need : Need) (c : Corner) (ready : CornerReady C c) where
   leaf-rising : Rising (C .width .0) (C .height .0) (suitsRoom C need) (c .x .0) (c .y .0)
   leaf-rising = rising (suits-growing C need) (c .x .0) (c .y .0)
 
   top-from : (n : ℕ) → (c .y .0 < trialTop C need c n) × (trialTop C need c n ≤ C .height .0 + 1)
-  top-from n = lowest-from leaf-rising (room .corner .row) (c .x .0 + n)
+  top-from n = lowest-from leaf-rising (ready .corner .row) (c .x .0 + n)
 
   -- no width, and a width beyond the chip, have no trial height
   no-top : (n : ℕ) → (n ≡ 0) ⊎ (C .width .0 < c .x .0 + n) → trialTop C need c n ≡ C .height .0 + 1
-  no-top n o = lowest-none leaf-rising (room .corner .row) (c .x .0 + n) (⊎-elim (λ (e : n ≡ 0). inl (omega arith)) inr o)
+  no-top n o = lowest-none leaf-rising (ready .corner .row) (c .x .0 + n) (⊎-elim (λ (e : n ≡ 0). inl (omega arith)) inr o)
 
   no-trial : (n : ℕ) → (n ≡ 0) ⊎ (C .width .0 < c .x .0 + n) → 0 ≡ trialHeight C need c n
   no-trial n o = rw (no-top n o) (simp (lt-leb (C .height .0 + 1) (C .height .0) (omega arith)))
 
-pub tried-none : {C : Chip} {need : Need} {c : Corner} → CornerRoom C c → Tried C need c 0 (byKind 0 0 0) (C .height .0 + 1) (zeros mostColumns)
-tried-none {C} {need} {c} room = record {
-  room = room;
+pub tried-none : {C : Chip} {need : Need} {c : Corner} → CornerReady C c → Tried C need c 0 (byKind 0 0 0) (C .height .0 + 1) (zeros mostColumns)
+tried-none {C} {need} {c} ready = record {
+  ready = ready;
   columns = counts-none C (c .x .0);
-  top = sym (no-top C need c room 0 (inl refl));
+  top = sym (no-top C need c ready 0 (inl refl));
   long = length-replicate {A = ℕ} mostColumns 0;
   done = λ j h. absurd (omega arith);
   rest = λ j h. none-tried mostColumns j;
@@ -103,11 +104,11 @@ module _ {C : Chip} {need : Need} {c : Corner} {n far : ℕ} {counts : ByKind} {
     where
       go : (j : ℕ) → Dec (j < n) → getD heights j 0 ≡ trialHeight C need c (suc j)
       go j (yes k) = z .done j k
-      go j (no k) = z .rest j (omega arith) ∙ no-trial C need c (z .room) (suc j) (inr (omega arith))
+      go j (no k) = z .rest j (omega arith) ∙ no-trial C need c (z .ready) (suc j) (inr (omega arith))
 
   module _ (within : c .x .0 + n < C .width .0) where
     limits : ChipLimits C
-    limits = chip-limits C (z .room .lawful)
+    limits = chip-limits C (z .ready .lawful)
 
     pub few : FewerThan mostColumns counts
     few = let l = limits in let m = counts-most C (c .x .0) n (z .columns) in record { clbs = omega arith; rams = omega arith; multipliers = omega arith }
@@ -118,7 +119,7 @@ module _ {C : Chip} {need : Need} {c : Corner} {n far : ℕ} {counts : ByKind} {
 
       pub tried-within : (c .y .0 < far) × Within counts' (C .block .0) (far - 1)
       tried-within =
-          let m = counts-most C (c .x .0) (suc n) counts-are in let t = top-from C need c (z .room) n in let e = z .top in let l = limits in (
+          let m = counts-most C (c .x .0) (suc n) counts-are in let t = top-from C need c (z .ready) n in let e = z .top in let l = limits in (
             omega arith,
             record {
               counts = record { clbs = omega arith; rams = omega arith; multipliers = omega arith };
@@ -132,7 +133,7 @@ module _ {C : Chip} {need : Need} {c : Corner} {n far : ℕ} {counts : ByKind} {
       pub tried-next : {far' v : ℕ} → StopsAt (suitsIn counts' need (C .block .0) (c .y .0)) (c .y .0) far far' → v ≡ heightTo far' (c .y .0) (C .height .0)
           → Tried C need c (n + 1) counts' far' (set heights n v)
       tried-next {far'} {v} s e = rw add-one (record {
-        room = z .room;
+        ready = z .ready;
         columns = counts-are;
         top = top-is;
         long = length-set heights n v ∙ z .long;
@@ -149,7 +150,7 @@ module _ {C : Chip} {need : Need} {c : Corner} {n far : ℕ} {counts : ByKind} {
           top-is : far' ≡ trialTop C need c (suc n)
           top-is =
               rw add-suc
-              (lowest-next (leaf-rising C need c (z .room)) (z .room .corner .row) (c .x .0 + n) (suitsIn counts' need (C .block .0) (c .y .0)) within same (z .top) s)
+              (lowest-next (leaf-rising C need c (z .ready)) (z .ready .corner .row) (c .x .0 + n) (suitsIn counts' need (C .block .0) (c .y .0)) within same (z .top) s)
 
           go : (j : ℕ) → j < suc n → Dec (j ≡ n) → getD (set heights n v) j 0 ≡ trialHeight C need c (suc j)
           go j k (yes q) =
@@ -158,25 +159,23 @@ module _ {C : Chip} {need : Need} {c : Corner} {n far : ℕ} {counts : ByKind} {
           go j k (no q) = getD-set-other heights n j v 0 q ∙ z .done j (omega arith)
 
 -- what is listed of the trial heights is the leaf's list
-module _ {C : Chip} {need : Need} {c : Corner} {heights : List ℕ} (room : CornerRoom C c) (z : Trials C need c heights) where
+module _ {C : Chip} {need : Need} {c : Corner} {heights : List ℕ} (ready : CornerReady C c) (z : Trials C need c heights) where
   before-is : (j : ℕ) → heightBefore heights j ≡ trialHeight C need c j
-  before-is zero = no-trial C need c room 0 (inl refl)
+  before-is zero = no-trial C need c ready 0 (inl refl)
   before-is (suc j) = z .each j
 
   trials-listed : (j : ℕ) → listedAt heights j ≡ leafBytes C need c j
   unfolding listedAt listByte
   trials-listed j =
-      let (p, q) = top-from C need c room (suc j) in let (p', q') = top-from C need c room j in
+      let (p, q) = top-from C need c ready (suc j) in let (p', q') = top-from C need c ready j in
       rw (z .each j, before-is j) (listed-height (C .height .0) (c .y .0) (trialTop C need c (suc j)) (trialTop C need c j) p q p' q')
 
--- the heights at a leaf's corner can be tried
-pub can-try : {b : Board} {C : Chip} {t : ℕ} {c : Corner} {work : List ℕ} → LeafRoom b C t c work → CornerRoom C c
-can-try room = record { lawful = room .lawful; corner = rw (room .width, room .height) at (room .corner) }
-
 -- the whole slot, written from the trial heights
-pub slot-listed : {b : Board} {C : Chip} {before after : List ℕ} {need : Need} {t start n : ℕ} {c : Corner} {heights : List ℕ}
-    → LeafRoom b C t c before → Trials C need c heights → start ≡ slotStart (b .width .0) (b .height .0) t c → n ≡ b .width .0
-    → Filled before start n (listedAt heights) after → SlotListed b C need t c before after
-slot-listed {b} {C} {before} {after} {need} {t} {c = c} room z es en f =
-    slot-filled (b .width .0) (b .height .0) t c (leafBytes C need c) before after (room .slot)
-    (same-filled (leafBytes C need c) (rw (es, en) at f) (λ j h. trials-listed (can-try room) z j))
+pub slot-listed : {b : Board} {block : Rows} {kinds before after : List ℕ} {need : Need} {t start n : ℕ} {c : Corner} {heights : List ℕ}
+    → SlotReady b (chipOn b block kinds) t c before → Trials (chipOn b block kinds) need c heights
+    → start ≡ startOn b t c → n ≡ b .width .0 → Filled before start n (listedAt heights) after
+    → SlotListed b block kinds need t c before after
+slot-listed {b} {block} {kinds} {before} {after} {need} {t} {c = c} ready z es en f =
+    let bytes = leafBytes (chipOn b block kinds) need c in
+    slot-filled (b .width .0) (b .listed .0) t c bytes before after (ready .slot)
+    (same-filled bytes (rw (es, en) at f) (λ j h. trials-listed (ready .at) z j))

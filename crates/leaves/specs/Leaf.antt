@@ -1,4 +1,4 @@
--- A leaf's slot: the room that listing it asks for, and what each step of listing finds.
+-- A leaf's slot: what listing it asks for, and what each step of listing finds.
 use mathlib.Core.Path.{_≡_}
 use mathlib.Core.Bool.{Bool, _&&_, _||_, not, So}
 use mathlib.Core.List.{List}
@@ -7,40 +7,43 @@ use mir.Val.{boolByte}
 use lib.Dec.{leb, ltb, eqb}
 use lib.ListN.{length, getD}
 use Rattle.rules.specs.declared.Corner.{Corner}
+use Rattle.rules.specs.declared.Rows.{Rows}
 use Rattle.rules.specs.declared.Need.{Need}
 use Rattle.rules.specs.declared.Chip.{Chip}
 use Rattle.rules.specs.Design.{mostColumns, mostRows, lawfulChip}
-use Rattle.rules.specs.Slot.{slotStart, CornerOn}
+use Rattle.rules.specs.Slot.{CornerOn}
 use Rattle.rules.proofs.Test.{onlyIf, blocksOf, lowest, listByte, suitsRoom}
 use Rattle.slots.specs.declared.Board.{Board}
-use Rattle.slots.specs.Written.{SlotIs, PartIs, NodeIs}
+use Rattle.slots.specs.Lent.{startOn, Addressed, Lent, SlotOn, PartOn, NodeOn}
 use Rattle.leaves.specs.declared.ByKind.{ByKind}
 
 -- the bytes of a leaf's list at a corner
 abbrev pub leafBytes : Chip → Need → Corner → ℕ → ℕ
 leafBytes C need c = listByte (C .height .0) (suitsRoom C need) (c .x .0) (c .y .0)
 
+-- the chip of a board's size, with blocks so high, whose columns' kinds are lent: a corner is listed from these, and no copy of the
+-- chip is made for it
+abbrev pub chipOn : Board → Rows → List ℕ → Chip
+chipOn b block kinds = record { width = b .width; height = b .height; block = block; kinds = kinds }
+
 -- a corner of a lawful chip, where the heights are tried
-pub record CornerRoom (C : Chip) (c : Corner) : Type 0 where
+pub record CornerReady (C : Chip) (c : Corner) : Type 0 where
   pub lawful : So (lawfulChip C)
+  pub kinds : C .width .0 ≤ length (C .kinds)
   pub corner : CornerOn (C .width .0) (C .height .0) c
 
--- what listing node t at a corner asks for: a lawful chip, its size, and a slot in the work bytes
-pub record LeafRoom (b : Board) (C : Chip) (t : ℕ) (c : Corner) (work : List ℕ) : Type 0 where
-  pub lawful : So (lawfulChip C)
-  pub width : b .width .0 ≡ C .width .0
-  pub height : b .height .0 ≡ C .height .0
-  pub corner : CornerOn (b .width .0) (b .height .0) c
-  pub node : t < 128
-  pub slot : slotStart (b .width .0) (b .height .0) t c + b .width .0 ≤ length work
+-- what listing node t there asks for: a slot in the work bytes too
+pub record SlotReady (b : Board) (C : Chip) (t : ℕ) (c : Corner) (work : List ℕ) : Type 0 where
+  pub at : CornerReady C c
+  pub address : Addressed b t c
+  pub slot : startOn b t c + b .width .0 ≤ length work
 
--- what listing all its corners asks for
-pub record NodeRoom (b : Board) (C : Chip) (t : ℕ) (work : List ℕ) : Type 0 where
+-- what listing all its corners asks for: a lawful chip, a board of its size, and bytes lent
+pub record LeafReady (b : Board) (C : Chip) (t : ℕ) (work : List ℕ) : Type 0 where
   pub lawful : So (lawfulChip C)
-  pub width : b .width .0 ≡ C .width .0
-  pub height : b .height .0 ≡ C .height .0
-  pub node : t < 128
-  pub slots : suc t * b .height .0 * b .width .0 * b .width .0 ≤ length work
+  pub width : b .width ≡ C .width
+  pub height : b .height ≡ C .height
+  pub lent : Lent b (suc t) work
 
 -- the corners of row y before column x; the corners of the rows below row y
 abbrev pub inRow : ℕ → ℕ → Corner → Bool
@@ -50,14 +53,14 @@ abbrev pub below : ℕ → Corner → Bool
 below y c = ltb (c .y .0) y
 
 -- a leaf's list in the slot of node t at a corner, in those of row y, and in all its slots; no other byte changes
-abbrev pub SlotListed : Board → Chip → Need → ℕ → Corner → List ℕ → List ℕ → Type 0
-SlotListed b C need t c = SlotIs (b .width .0) (b .height .0) t c (leafBytes C need c)
+abbrev pub SlotListed : Board → Rows → List ℕ → Need → ℕ → Corner → List ℕ → List ℕ → Type 0
+SlotListed b block kinds need t c = SlotOn b t c (leafBytes (chipOn b block kinds) need c)
 
 abbrev pub RowListed : Board → Chip → Need → ℕ → ℕ → List ℕ → List ℕ → Type 0
-RowListed b C need t y = PartIs (b .width .0) (b .height .0) t (leafBytes C need) (inRow y (b .width .0))
+RowListed b C need t y = PartOn b t (leafBytes C need) (inRow y (b .width .0))
 
 abbrev pub NodeListed : Board → Chip → Need → ℕ → List ℕ → List ℕ → Type 0
-NodeListed b C need t = NodeIs (b .width .0) (b .height .0) t (leafBytes C need)
+NodeListed b C need t = NodeOn b t (leafBytes C need)
 
 -- so many columns of each kind hold the need between two rows
 unfoldable pub suitsIn : ByKind → Need → ℕ → ℕ → ℕ → Bool

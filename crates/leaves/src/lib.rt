@@ -11,7 +11,7 @@ ghost use mathlib.Core.Path.{_≡_};
 ghost use Prim.Native.Nat.{_-_, _*_, _≤_, _<_};
 ghost use lib.Dec.{leb};
 ghost use Rattle.rules.specs.Design.{mostColumns, mostRows};
-ghost use Rattle.leaves.specs.Leaf.{CornerRoom, LeafRoom, NodeRoom, SlotListed, RowListed, NodeListed};
+ghost use Rattle.leaves.specs.Leaf.{chipOn, CornerReady, SlotReady, LeafReady, SlotListed, RowListed, NodeListed};
 ghost use Rattle.leaves.specs.Leaf.{FewerThan, Within, suitsIn, StopsAt, oneMore, heightTo, Trials, listedOf};
 
 // How many columns of each kind lie side by side.
@@ -86,23 +86,29 @@ fn height_to(top: Rows, low: Rows, height: Rows) -> u8
 }
 
 // The trial heights: for each width the least height that suits, or 0 where none does.
-fn trial_heights(chip: Chip, need: Need, at: Corner) -> [u8; MOST_COLUMNS]
-    requires { ⌜ CornerRoom chip at ⌝ }
-    ensures { λ r. ⌜ Trials chip need at r ⌝ }
+fn trial_heights(
+    board: Board,
+    block: Rows,
+    kinds: &[u8],
+    need: Need,
+    at: Corner,
+) -> [u8; MOST_COLUMNS]
+    requires { ⌜ CornerReady (chipOn board block (now kinds)) at ⌝ }
+    ensures { λ r. ⌜ Trials (chipOn board block (now (kinds .entry))) need at r ⌝ }
 {
     let x = at.x.0;
-    let n = chip.width.0 - x;
+    let n = board.width.0 - x;
     let mut heights = [0u8; MOST_COLUMNS];
     let mut columns = ByKind {
         clbs: Columns(0),
         rams: Columns(0),
         multipliers: Columns(0),
     };
-    let mut top = Rows(chip.height.0 + 1);
+    let mut top = Rows(board.height.0 + 1);
     for j in 0..n {
-        columns = one_more(columns, chip.kinds[x + j]);
-        top = least_top(columns, need, chip.block, at.y, top);
-        heights[j] = height_to(top, at.y, chip.height);
+        columns = one_more(columns, kinds[x + j]);
+        top = least_top(columns, need, block, at.y, top);
+        heights[j] = height_to(top, at.y, board.height);
     }
     heights
 }
@@ -121,11 +127,19 @@ fn listed(height: u8, before: u8) -> u8
 }
 
 // Lists the shapes of a leaf at a corner, in the slot of node t.
-pub fn leaf_slot(work: &mut [u8], board: Board, chip: Chip, need: Need, t: usize, at: Corner)
-    requires { ⌜ LeafRoom board chip t at (now work) ⌝ }
-    ensures { λ _. ⌜ SlotListed board chip need t at (now (work .entry)) (now (work .exit)) ⌝ }
+fn leaf_slot(
+    work: &mut [u8],
+    board: Board,
+    block: Rows,
+    kinds: &[u8],
+    need: Need,
+    t: usize,
+    at: Corner,
+)
+    requires { ⌜ SlotReady board (chipOn board block (now kinds)) t at (now work) ⌝ }
+    ensures { λ _. ⌜ SlotListed board block (now (kinds .entry)) need t at (now (work .entry)) (now (work .exit)) ⌝ }
 {
-    let heights = trial_heights(chip, need, at);
+    let heights = trial_heights(board, block, kinds, need, at);
     let start = slots::slot_start(board, t, at);
     let mut before = 0;
     for j in 0..board.width.0 {
@@ -137,20 +151,28 @@ pub fn leaf_slot(work: &mut [u8], board: Board, chip: Chip, need: Need, t: usize
 
 // Lists the corners of a leaf in one row.
 fn leaf_row(work: &mut [u8], board: Board, chip: Chip, need: Need, t: usize, y: Rows)
-    requires { ⌜ NodeRoom board chip t (now work) × (y .0 < board .height .0) ⌝ }
+    requires { ⌜ LeafReady board chip t (now work) × (y .0 < board .listed .0) ⌝ }
     ensures { λ _. ⌜ RowListed board chip need t (y .0) (now (work .entry)) (now (work .exit)) ⌝ }
 {
     for x in 0..board.width.0 {
-        leaf_slot(work, board, chip, need, t, Corner { x: Columns(x), y });
+        leaf_slot(
+            work,
+            board,
+            chip.block,
+            &chip.kinds,
+            need,
+            t,
+            Corner { x: Columns(x), y },
+        );
     }
 }
 
 // Lists all corners of a leaf.
 pub fn leaf_node(work: &mut [u8], board: Board, chip: Chip, need: Need, t: usize)
-    requires { ⌜ NodeRoom board chip t (now work) ⌝ }
+    requires { ⌜ LeafReady board chip t (now work) ⌝ }
     ensures { λ _. ⌜ NodeListed board chip need t (now (work .entry)) (now (work .exit)) ⌝ }
 {
-    for y in 0..board.height.0 {
+    for y in 0..board.listed.0 {
         leaf_row(work, board, chip, need, t, Rows(y));
     }
 }

@@ -1,19 +1,17 @@
 -- One node's listing: a leaf's slots are the list of the shapes that suit its module's need, a cut's the list of its children's
--- pairings; and the work bytes have room for both. Assumes nothing.
+-- pairings; and the work bytes lent are enough for both. Assumes nothing.
 use mathlib.Core.Path.{_≡_, refl}
 use mathlib.Core.List.{List}
-use Prim.Native.Nat.{ℕ, suc, _+_, _-_, _*_, _≤_, _<_}
+use Prim.Native.Nat.{ℕ, suc, _-_, _≤_, _<_}
 use native.Mathlib.Omega.{arith}
-use native.Mathlib.Nat.{mul-le-mul-right}
 use lib.ListN.{getD}
 use Rattle.rules.specs.declared.Design.{Design}
 use Rattle.rules.specs.declared.Direction.{Direction}
 use Rattle.rules.specs.declared.Token.the-variants.{Cut, Module, Beyond}
 use Rattle.rules.specs.Tree.{Tree, leaf, cut, position}
-use Rattle.rules.specs.Design.{needAt, tokenAt, nodeAt, nodes, slotsOf, widthOf, heightOf}
-use Rattle.rules.specs.Slot.{workNeeded}
+use Rattle.rules.specs.Design.{needAt, tokenAt, nodeAt, nodes, slotsOf, widthOf, heightOf, mostModules, mostTokens}
 use Rattle.rules.proofs.Test.{fits}
-use Rattle.rules.proofs.Standing.{Node, is-leaf, is-cut, Children, node-module}
+use Rattle.rules.proofs.Standing.{Node, is-leaf, is-cut, node-module}
 use Rattle.rules.proofs.Nodes.{node-at}
 use Rattle.rules.proofs.Limits.{limits, lawful-chip}
 use Rattle.rules.proofs.Listing.{list-bytes}
@@ -21,30 +19,25 @@ use Rattle.rules.proofs.Pairing.{pairings-bytes}
 use Rattle.rules.proofs.Suiting.{design-decides}
 use Rattle.slots.specs.declared.Board.{Board}
 use Rattle.slots.specs.Size.{boardOf}
-use Rattle.slots.specs.Written.{NodeIs}
-use Rattle.leaves.specs.Leaf.{leafBytes, NodeRoom, NodeListed}
-use Rattle.cuts.specs.Cut.{pairedSlot, Roomy, Cuttable}
+use Rattle.leaves.specs.Leaf.{leafBytes, NodeListed, LeafReady}
+use Rattle.cuts.specs.Cut.{pairedSlot, Cuttable}
+use Rattle.slots.specs.Lent.{Lent, NodeOn}
+use Rattle.slots.proofs.Lending.{lent-of, fewer-lent}
 use Rattle.trees.proofs.Lefts.{left-child}
 use Rattle.listing.specs.Making.{Listable, NodeMade}
 
--- the first nodes need no more bytes than all
-node-bytes : (W H n t : ℕ) {size : ℕ} → t < n → workNeeded W H n ≤ size → workNeeded W H (suc t) ≤ size
-node-bytes W H n t h k =
-    let a : suc t * H ≤ n * H = mul-le-mul-right H h in let b : suc t * H * W ≤ n * H * W = mul-le-mul-right W a in
-    let e : suc t * H * W * W ≤ n * H * W * W = mul-le-mul-right W b in omega arith
-
 module _ {d : Design} {lefts work : List ℕ} (L : Listable d lefts work) {t : ℕ} (h : t < nodes d) where
-  pub few-nodes : t < 31
+  pub few-nodes : t < mostTokens
   few-nodes = let l = limits d (L .lawful) in omega arith
 
   its-node : Node (d .modules) (tokenAt d) t (nodeAt d t)
   its-node = node-at d (L .lawful) t h
 
   -- a token of a lawful design is a module of its, or a cut of two nodes before it
-  pub module-of : {k : ℕ} → tokenAt d t ≡ Module k → k < 16
+  pub module-of : {k : ℕ} → tokenAt d t ≡ Module k → k < mostModules
   module-of {k} q = go its-node
     where
-      go : {u : Tree} → Node (d .modules) (tokenAt d) t u → k < 16
+      go : {u : Tree} → Node (d .modules) (tokenAt d) t u → k < mostModules
       go (is-leaf {k = j} e b) = let z : j ≡ k = cc in let l = limits d (L .lawful) in omega arith
       go (is-cut e c) = let z : _≡_ {A = ℕ} 0 1 = cc in absurd (omega arith)
 
@@ -55,14 +48,12 @@ module _ {d : Design} {lefts work : List ℕ} (L : Listable d lefts work) {t : �
       go (is-leaf e b) = let z : _≡_ {A = ℕ} 0 1 = cc in omega arith
       go (is-cut e c) = let z : _≡_ {A = ℕ} 0 1 = cc in omega arith
 
-  pub leaf-room : {b : Board} → b ≡ boardOf d → NodeRoom b (d .chip) t work
-  leaf-room e = rw e (let l = limits d (L .lawful) in record {
-    lawful = lawful-chip d (L .lawful);
-    width = refl;
-    height = refl;
-    node = omega arith;
-    slots = node-bytes (widthOf d) (heightOf d) (nodes d) t h (L .bytes);
-  })
+  -- the bytes lent for all nodes are lent for the first ones
+  pub node-lent : {b : Board} → b ≡ boardOf d → Lent b (suc t) work
+  node-lent e = fewer-lent (lent-of d (L .lawful) (L .bytes) e) (suc t) h
+
+  pub leaf-ready : {b : Board} → b ≡ boardOf d → LeafReady b (d .chip) t work
+  leaf-ready e = record { lawful = lawful-chip d (L .lawful); width = rw e; height = rw e; lent = node-lent e }
 
   pub leaf-made : {b : Board} {k : ℕ} {after : List ℕ} → b ≡ boardOf d → tokenAt d t ≡ Module k
       → NodeListed b (d .chip) (needAt d k) t work after → NodeMade d t work after
@@ -73,12 +64,8 @@ module _ {d : Design} {lefts work : List ℕ} (L : Listable d lefts work) {t : �
     listed = λ c on. rw (node-module its-node q) (list-bytes (design-decides d) (leaf t k) c);
   }
 
-  pub cut-room : {b : Board} {l r : ℕ} → b ≡ boardOf d → l < t → r < t → Cuttable b t l r work
-  cut-room e x y = rw e (let l = limits d (L .lawful) in record {
-    room = record { columns = l .chip .width; rows = l .chip .height; node = omega arith; bytes = node-bytes (widthOf d) (heightOf d) (nodes d) t h (L .bytes) };
-    first = x;
-    second = y;
-  })
+  pub cut-lent : {b : Board} {l r : ℕ} → b ≡ boardOf d → l < t → r < t → Cuttable b t l r work
+  cut-lent e x y = record { lent = node-lent e; first = x; second = y }
 
   module _ {k : Direction} (q : tokenAt d t ≡ Cut k) where
     its-children : (l : Tree) × (r : Tree) × (nodeAt d t ≡ cut t k l r) × (getD lefts t 0 ≡ position l) × (t - 1 ≡ position r) × (position l < t) × (position r < t)
@@ -98,10 +85,10 @@ module _ {d : Design} {lefts work : List ℕ} (L : Listable d lefts work) {t : �
     cut-after = let (l, r, p, a, b, x, y) = its-children in omega arith
 
     pub cut-made : {b : Board} {after : List ℕ} → b ≡ boardOf d
-        → NodeIs (b .width .0) (b .height .0) t (pairedSlot k (b .width .0) (b .height .0) work (getD lefts t 0) (t - 1)) work after → NodeMade d t work after
+        → NodeOn b t (pairedSlot k b work (getD lefts t 0) (t - 1)) work after → NodeMade d t work after
     unfolding pairedSlot
     cut-made {b} {after} e z = let (l, r, p, a, b, x, y) = its-children in record {
-      slots = pairedSlot k (widthOf d) (heightOf d) work (getD lefts t 0) (t - 1);
+      slots = pairedSlot k (boardOf d) work (getD lefts t 0) (t - 1);
       written = rw e at z;
       listed = λ c on. rw (p, a, b) (pairings-bytes (widthOf d) (heightOf d) k (slotsOf d work (position l)) (slotsOf d work (position r)) c);
     }

@@ -1,10 +1,10 @@
 -- A pass over the nodes, child before parent. A node's new slots hang on its children's, which stand before it and are not touched again;
 -- so what was listed stays listed. Assumes nothing.
-use mathlib.Core.Path.{_≡_, refl, sym, _∙_, ap}
+use mathlib.Core.Path.{_≡_, refl, sym, _∙_}
 use mathlib.Core.Logic.{_↔_}
 use mathlib.Core.Bool.{Bool, So}
 use mathlib.Core.List.{List}
-use Prim.Native.Nat.{ℕ, suc, _+_, _≤_, _<_}
+use Prim.Native.Nat.{ℕ, _+_, _≤_, _<_}
 use native.Mathlib.Omega.{arith}
 use native.Mathlib.Decide.{ℕ-discrete}
 use lib.ListN.{length}
@@ -13,17 +13,17 @@ use Rattle.rules.specs.declared.Shape.{Shape}
 use Rattle.rules.specs.declared.Design.{Design}
 use Rattle.rules.specs.declared.Edit.{Edit}
 use Rattle.rules.specs.declared.Edit.the-variants.{Change, Turn}
-use Rattle.rules.specs.Tree.{Tree, leaf, cut, spans, position}
-use Rattle.rules.specs.Slot.{CornerOn}
-use Rattle.rules.specs.Design.{LawfulDesign, tokenAt, nodeAt, nodes, SuitsOf, slotsOf, widthOf, heightOf}
+use Rattle.rules.specs.Tree.{Tree, leaf, cut, position}
+use Rattle.rules.specs.Design.{LawfulDesign, tokenAt, nodeAt, nodes, SuitsOf, slotRows, HasSlots, slotsOf, widthOf, heightOf}
 use Rattle.rules.specs.Edit.{Relists, changed, changedNode, EditedLists}
-use Rattle.rules.proofs.Standing.{Node, is-leaf, is-cut, Children}
+use Rattle.rules.proofs.Standing.{Node, is-cut}
 use Rattle.rules.proofs.Nodes.{node-at}
+use Rattle.rules.proofs.Limits.{every-row, no-other-row}
 use Rattle.rules.proofs.Listing.{same-list}
 use Rattle.rules.proofs.Relisting.{relists-own}
-use Rattle.rules.proofs.Agreeing.{Agree, agree-back, paired-agree}
+use Rattle.rules.proofs.Agreeing.{Agree, on-more-rows, agree-on, agree-back, paired-agree}
 use Rattle.slots.proofs.Writing.{node-other, past-nodes}
-use Rattle.listing.specs.Making.{Listable, OnIts, IsListed, NodeMade, Made, onWay, ListedAfresh}
+use Rattle.listing.specs.Making.{Listable, IsListed, NodeMade, Made, onWay, ListedAfresh}
 
 -- bytes of the same length serve as well
 pub listable-kept : {d : Design} {lefts before after : List ℕ} → length after ≡ length before → Listable d lefts before → Listable d lefts after
@@ -52,21 +52,22 @@ one-passed {d} {marked} {t} o m = record {
 
 -- the slots of node t agree in two states of the work bytes
 abbrev SameSlots : Design → ℕ → List ℕ → List ℕ → Type 0
-SameSlots d t mid after = Agree (widthOf d) (heightOf d) (slotsOf d mid t) (slotsOf d after t)
+SameSlots d t mid after = Agree (widthOf d) (slotRows d) (slotsOf d mid t) (slotsOf d after t)
 
 -- what a node is listed from hangs on the slots of the nodes before it
 relists-same : (d : Design) → LawfulDesign d → (t : ℕ) → t < nodes d → (mid after : List ℕ) → ((u : ℕ) → u < t → SameSlots d u mid after)
-    → (c : Corner) → OnIts d c → (s : Shape)
-    → Relists (widthOf d) (heightOf d) (SuitsOf d) mid (nodeAt d t) c s ↔ Relists (widthOf d) (heightOf d) (SuitsOf d) after (nodeAt d t) c s
+    → (c : Corner) → HasSlots d c → (s : Shape)
+    → Relists (widthOf d) (heightOf d) (slotRows d) (SuitsOf d) mid (nodeAt d t) c s ↔ Relists (widthOf d) (heightOf d) (slotRows d) (SuitsOf d) after (nodeAt d t) c s
 relists-same d lawful t h mid after same c on s = go (nodeAt d t) (node-at d lawful t h)
   where
     go : (u : Tree) → Node (d .modules) (tokenAt d) t u
-        → Relists (widthOf d) (heightOf d) (SuitsOf d) mid u c s ↔ Relists (widthOf d) (heightOf d) (SuitsOf d) after u c s
+        → Relists (widthOf d) (heightOf d) (slotRows d) (SuitsOf d) mid u c s ↔ Relists (widthOf d) (heightOf d) (slotRows d) (SuitsOf d) after u c s
     go (leaf t' k) n = (λ z. z, λ z. z)
     go (cut t' e l r) (is-cut q ch) =
         let a = ch .left-before in let b = ch .right-before in
-        let x = same (position l) (omega arith) in let y = same (position r) (omega arith) in
-        (paired-agree (widthOf d) (heightOf d) e x y c on s, paired-agree (widthOf d) (heightOf d) e (agree-back x) (agree-back y) c on s)
+        let x = agree-on (every-row d) (same (position l) (omega arith)) in let y = agree-on (every-row d) (same (position r) (omega arith)) in
+        let o = on-more-rows (no-other-row d) on in
+        (paired-agree (widthOf d) (heightOf d) e x y c o s, paired-agree (widthOf d) (heightOf d) e (agree-back x) (agree-back y) c o s)
 
 -- a marked node that is listed
 pub one-made : {d : Design} {marked : ℕ → Bool} {t : ℕ} {before mid after : List ℕ} → LawfulDesign d → t < nodes d → So (marked t)
@@ -75,16 +76,16 @@ one-made {d} {marked} {t} {before} {mid} {after} lawful ht st m z = record {
   long = z .written .long ∙ m .long;
   made = λ t' h s. listed t' h s (ℕ-discrete t' t);
   kept = λ t' h o c on j k. other t' (λ e. o (omega arith) (rw e at st)) c on j k ∙ m .kept t' h (λ g s. o (omega arith) s) c on j k;
-  past = λ i h. past-nodes (widthOf d) (heightOf d) t (nodes d) (z .slots) mid after (z .written) ht i h ∙ m .past i h;
+  past = λ i h. past-nodes (widthOf d) (slotRows d) t (nodes d) (z .slots) mid after (z .written) ht i h ∙ m .past i h;
 }
   where
-    other : (t' : ℕ) → (t ≡ t' → ⊥) → (c : Corner) → OnIts d c → (j : ℕ) → j < widthOf d → slotsOf d after t' c j ≡ slotsOf d mid t' c j
-    other t' o = node-other (widthOf d) (heightOf d) t t' (z .slots) mid after (z .written) o
+    other : (t' : ℕ) → (t ≡ t' → ⊥) → (c : Corner) → HasSlots d c → (j : ℕ) → j < widthOf d → slotsOf d after t' c j ≡ slotsOf d mid t' c j
+    other t' o = node-other (widthOf d) (slotRows d) t t' (z .slots) mid after (z .written) o
 
     same : (t' : ℕ) → t' ≤ t → (u : ℕ) → u < t' → SameSlots d u mid after
     same t' b u h = record { at = λ c on j k. sym (other u (λ e. absurd (omega arith)) c on j k) }
 
-    listed : (t' : ℕ) → t' < t + 1 → So (marked t') → Dec (t' ≡ t) → (c : Corner) → OnIts d c → IsListed d t' (slotsOf d after t' c) after c
+    listed : (t' : ℕ) → t' < t + 1 → So (marked t') → Dec (t' ≡ t) → (c : Corner) → HasSlots d c → IsListed d t' (slotsOf d after t' c) after c
     listed t' h s (yes e) c on =
         rw e (same-list (widthOf d) (z .slots c) (slotsOf d after t c) (λ j k. sym (z .written .inside c on j k))
         (relists-same d lawful t ht mid after (same t (omega arith)) c on) (z .listed c on))
@@ -109,6 +110,6 @@ all-made {after = after} lawful every m = (record { length = m .long; past = m .
 
 -- the way of an edit listed: the bytes that edit's rule asks for
 pub way-made : (d : Design) (e : Edit) {before after : List ℕ} → Made (changed d e) (onWay (changed d e) (changedNode d e)) (nodes (changed d e)) before after → EditedLists d e before after
-unfolding changed
+unfolding changed slotRows
 way-made d (Change k n) m = record { way = λ t c h on s. m .made t h s c on; off = λ t c h on o. m .kept t h (λ _ s. o s) c on; past = record { length = m .long; past = m .past } }
 way-made d (Turn p) m = record { way = λ t c h on s. m .made t h s c on; off = λ t c h on o. m .kept t h (λ _ s. o s) c on; past = record { length = m .long; past = m .past } }

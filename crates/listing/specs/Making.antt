@@ -7,19 +7,17 @@ use lib.ListN.{length, getD}
 use Rattle.rules.specs.declared.Corner.{Corner}
 use Rattle.rules.specs.declared.Design.{Design}
 use Rattle.rules.specs.Tree.{spans}
-use Rattle.rules.specs.Slot.{CornerOn, IsListOf, PastKept}
-use Rattle.rules.specs.Design.{nodeAt, nodes, SuitsOf, slotsOf, LawfulDesign, OwnLists, widthOf, heightOf}
+use Rattle.rules.specs.Slot.{IsListOf, PastKept}
+use Rattle.rules.specs.Design.{nodeAt, nodes, SuitsOf, slotRows, HasSlots, slotsOf, LawfulDesign, OwnLists, widthOf, heightOf}
 use Rattle.rules.specs.Edit.{Relists}
 use Rattle.rules.specs.Service.{workOf}
 use Rattle.slots.specs.Written.{NodeIs}
 use Rattle.trees.specs.Positions.{LeftChildren}
 
--- a corner of the design's chip, and what node t is listed from there, over the bytes as they stand
-abbrev pub OnIts : Design → Corner → Type 0
-OnIts d c = CornerOn (widthOf d) (heightOf d) c
-
+-- what node t is listed from at a corner, over the bytes as they stand
 abbrev pub IsListed : Design → ℕ → (ℕ → ℕ) → List ℕ → Corner → Type 0
-IsListed d t bytes work c = IsListOf (widthOf d) bytes (Relists (widthOf d) (heightOf d) (SuitsOf d) work (nodeAt d t) c)
+IsListed d t bytes work c =
+    IsListOf (widthOf d) bytes (Relists (widthOf d) (heightOf d) (slotRows d) (SuitsOf d) work (nodeAt d t) c)
 
 -- what a pass asks: a lawful design, its cuts' left children, and bytes enough
 pub record Listable (d : Design) (children work : List ℕ) : Type 0 where
@@ -30,13 +28,13 @@ pub record Listable (d : Design) (children work : List ℕ) : Type 0 where
 -- node t is listed from what stood before, and no other byte has changed
 pub record NodeMade (d : Design) (t : ℕ) (before after : List ℕ) : Type 0 where
   pub slots : Corner → ℕ → ℕ
-  pub written : NodeIs (widthOf d) (heightOf d) t slots before after
-  pub listed : (c : Corner) → OnIts d c → IsListed d t (slots c) before c
+  pub written : NodeIs (widthOf d) (slotRows d) t slots before after
+  pub listed : (c : Corner) → HasSlots d c → IsListed d t (slots c) before c
 
 pub record Made (d : Design) (marked : ℕ → Bool) (done : ℕ) (before after : List ℕ) : Type 0 where
   pub long : length after ≡ length before
-  pub made : (t : ℕ) → t < done → So (marked t) → (c : Corner) → OnIts d c → IsListed d t (slotsOf d after t c) after c
-  pub kept : (t : ℕ) → t < nodes d → (t < done → So (marked t) → ⊥) → (c : Corner) → OnIts d c
+  pub made : (t : ℕ) → t < done → So (marked t) → (c : Corner) → HasSlots d c → IsListed d t (slotsOf d after t c) after c
+  pub kept : (t : ℕ) → t < nodes d → (t < done → So (marked t) → ⊥) → (c : Corner) → HasSlots d c
       → (j : ℕ) → j < widthOf d → slotsOf d after t c j ≡ slotsOf d before t c j
   pub past : (i : ℕ) → workOf d ≤ i → getD after i 0 ≡ getD before i 0
 

@@ -27,11 +27,12 @@ use Rattle.rules.proofs.Descending.{laid-down, down-laid}
 use Rattle.rules.proofs.Floorplans.{suited-decides}
 use Rattle.rules.proofs.RowsOut.{rows-same}
 use Rattle.slots.specs.declared.Board.{Board}
+use Rattle.slots.specs.Size.{boardOf}
+use Rattle.slots.specs.Lent.{slotsOn}
 use Rattle.choosing.specs.declared.Layout.{Layout}
-use Rattle.choosing.specs.Choose.{slotsIn, chosenShape}
+use Rattle.choosing.specs.Choose.{chosenShape}
 use Rattle.choosing.specs.Descend.{placeOf}
 use Rattle.choosing.proofs.Best.{chosen-none, chosen-this}
-use Rattle.slots.specs.Size.{boardOf}
 use Rattle.placing.specs.Place.{PlacesOn, WentDown, PlacedFrom}
 
 module _ {d : Design} {work rows : List ℕ} (room : Enough d work rows) where
@@ -41,7 +42,7 @@ module _ {d : Design} {work rows : List ℕ} (room : Enough d work rows) where
 
   -- the shape found, on the design's own board
   module _ {s : Shape} {board : Board} (e : board ≡ boardOf d)
-      (q : s ≡ chosenShape (board .width .0) (slotsIn board work (nodes d - 1) (corner 0 0))) where
+      (q : s ≡ chosenShape (board .width .0) (slotsOn board work (nodes d - 1) (corner 0 0))) where
     pub none-chosen : s .w .0 ≡ 0 → Empty (widthOf d) (rootSlot d (slotsOf d work))
     none-chosen z = chosen-none (widthOf d) (rootSlot d (slotsOf d work)) s (rw e at q) z
 

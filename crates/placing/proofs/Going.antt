@@ -3,39 +3,28 @@
 use mathlib.Core.Path.{_≡_, refl, sym, _∙_}
 use mathlib.Core.Bool.{Bool, true, false, So}
 use mathlib.Core.List.{List}
-use Prim.Native.Nat.{ℕ, _≤_}
-use native.Mathlib.Omega.{arith}
-use lib.ListN.{length}
+use Prim.Native.Nat.{ℕ}
 use Rattle.rules.specs.declared.Shape.{Shape}
 use Rattle.rules.specs.declared.Design.{Design}
 use Rattle.rules.specs.Search.{all}
-use Rattle.rules.specs.Design.{nodes, LawfulDesign, slotsOf, widthOf, heightOf}
+use Rattle.rules.specs.Design.{nodes, slotsOf, widthOf, heightOf}
 use Rattle.rules.specs.Check.{isSuited}
-use Rattle.rules.specs.Service.{workOf}
 use Rattle.rules.proofs.Searching.{absurd-so}
-use Rattle.rules.proofs.Limits.{limits}
 use Rattle.rules.proofs.Floorplans.{laid-on-chip}
 use Rattle.slots.specs.declared.Board.{Board}
+use Rattle.slots.specs.Size.{boardOf}
+use Rattle.slots.specs.Lent.{slotsOn}
 use Rattle.trees.specs.Positions.{LeftChildren}
-use Rattle.trees.proofs.Lefts.{left-child}
 use Rattle.choosing.specs.declared.Layout.{Layout}
-use Rattle.choosing.specs.Choose.{Ready, slotsIn}
 use Rattle.choosing.specs.Descend.{placeOf, anySuits, LaidOut, LaysOut}
 use Rattle.choosing.proofs.Suited.{laid-suited}
-use Rattle.slots.specs.Size.{boardOf}
 use Rattle.placing.specs.Place.{PlacesOn, FromStairs, WentDown}
-
--- work with room for a lawful design's lists is ready for its board
-pub ready : (d : Design) {work : List ℕ} {board : Board} → LawfulDesign d → workOf d ≤ length work → board ≡ boardOf d → Ready board (nodes d) work
-ready d lawful h e =
-    let l = limits d lawful in
-    rw e (record { columns = (l .chip .wide, l .chip .width); rows = (l .chip .high, l .chip .height); nodes = (omega arith, omega arith); room = h })
 
 module _ {d : Design} {work : List ℕ} {s : Shape} (from : FromStairs d work s) where
   -- what laying out gives of this design
   pub laid-out : {board : Board} {lefts : List ℕ} {r : Layout} → board ≡ boardOf d → LeftChildren d lefts
-      → LaysOut board (slotsIn board work) (d .tokens) lefts (nodes d) s r → LaidOut (boardOf d) (slotsOf d work) d s r
-  laid-out e l z = (rw e at z) d (from .lawful) refl refl (record { left = λ t k u v h q. left-child (from .lawful) l h q })
+      → LaysOut board (slotsOn board work) (d .tokens) lefts (nodes d) s r → LaidOut (boardOf d) (slotsOf d work) d s r
+  laid-out e l z = (rw e at z) d (from .lawful) refl refl l
 
   module _ {r : Layout} (z : LaidOut (boardOf d) (slotsOf d work) d s r) where
     pub places-on : So (r .ok) → PlacesOn (widthOf d) (heightOf d) (d .modules) (r .places)

@@ -2,7 +2,7 @@
 use mathlib.Core.Path.{_≡_}
 use mathlib.Core.Bool.{So}
 use mathlib.Core.List.{List, _++_}
-use Prim.Native.Nat.{ℕ, _≤_, _<_}
+use Prim.Native.Nat.{ℕ, _≤_, _<_, _*_}
 use lib.ListN.{length, drop}
 use Rattle.rules.specs.declared.Corner.{Corner}
 use Rattle.rules.specs.declared.Shape.{Shape}
@@ -15,7 +15,7 @@ use Rattle.rules.specs.Chip.{corner, OnChip}
 use Rattle.rules.specs.Placement.{Placement}
 use Rattle.rules.specs.Slot.{Stores, Empty}
 use Rattle.rules.specs.Choice.{Chosen, rowsOut}
-use Rattle.rules.specs.Design.{root, LawfulDesign, slotsOf, AllStairs, rootSlot, GoesDown, widthOf, heightOf}
+use Rattle.rules.specs.Design.{mostColumns, mostRows, mostModules, root, LawfulDesign, slotsOf, AllStairs, rootSlot, GoesDown, widthOf, heightOf}
 use Rattle.rules.specs.Check.{isSuited}
 use Rattle.rules.specs.Service.{workOf, rowsOf}
 use Rattle.rules.proofs.Test.{goesDown, laid}
@@ -39,6 +39,12 @@ pub record WentDown (d : Design) (slots : ℕ → Corner → ℕ → ℕ) (s : S
   pub places : So (r .ok) → (k : ℕ) → k < d .modules
       → placeOf (r .places) k ≡ laid (widthOf d) (heightOf d) slots (root d) (corner 0 0) s k
   pub chip : So (r .ok) → PlacesOn (widthOf d) (heightOf d) (d .modules) (r .places)
+
+-- what rows out asks: places of so many modules on the largest chip, and "four bytes" lent for each
+pub record RowsLent (m : ℕ) (places : List Rectangle) (rows : List ℕ) : Type 0 where
+  pub few : m ≤ mostModules
+  pub bytes : 4 * m ≤ length rows
+  pub on : PlacesOn mostColumns mostRows m places
 
 -- the answer over lists that are all stairs, with room enough: the root's list is empty, or going down from its chosen shape fails, or
 -- it gives the floorplan

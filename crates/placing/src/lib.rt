@@ -23,7 +23,7 @@ ghost use Rattle.rules.specs.Design.{mostColumns, mostRows, mostModules, Lawful
 ghost use Rattle.rules.specs.Check.{isSuited};
 ghost use Rattle.rules.specs.Service.{Enough};
 ghost use Rattle.choosing.specs.Descend.{placeOf};
-ghost use Rattle.placing.specs.Place.{PlacesOn, FromStairs, WentDown, PlacedFrom};
+ghost use Rattle.placing.specs.Place.{PlacesOn, FromStairs, WentDown, PlacedFrom, RowsLent};
 
 // Every module's place holds what it needs.
 fn all_suit(design: Design, places: [Rectangle; MOST_MODULES]) -> bool
@@ -72,7 +72,7 @@ fn row_out(rows: &mut [u8], k: usize, r: Rectangle)
 
 // "Rows out: four bytes x, y, w, h for each module, in module order; lent bytes past 4m stay."
 fn rows_out(places: [Rectangle; MOST_MODULES], modules: usize, rows: &mut [u8])
-    requires { ⌜ (modules ≤ mostModules) × (4 * modules ≤ length (now rows)) × PlacesOn mostColumns mostRows modules places ⌝ }
+    requires { ⌜ RowsLent modules places (now rows) ⌝ }
     ensures { λ _. ⌜ now (rows .exit) ≡ rowsOut modules (placeOf places) ++ drop (4 * modules) (now (rows .entry)) ⌝ }
 {
     for k in 0..modules {

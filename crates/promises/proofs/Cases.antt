@@ -18,7 +18,7 @@ use Rattle.rules.specs.Chip.{corner}
 use Rattle.rules.specs.Placement.{Placement}
 use Rattle.rules.specs.Slot.{Empty}
 use Rattle.rules.specs.Choice.{Chosen}
-use Rattle.rules.specs.Design.{valueTest, LawfulDesign, nodes, root, SuitsOf, slotsOf, AllStairs, rootSlot, GoesDown, widthOf, heightOf}
+use Rattle.rules.specs.Design.{valueTest, LawfulDesign, nodes, root, SuitsOf, slotRows, slotsOf, AllStairs, rootSlot, GoesDown, widthOf, heightOf}
 use Rattle.rules.specs.Edit.{namesPlace}
 use Rattle.rules.specs.Check.{isSuited}
 use Rattle.rules.proofs.Test.{goesDown}
@@ -79,7 +79,7 @@ pub placing : (d : Design) → LawfulDesign d → (slots : ℕ → Corner → �
 placing d l slots = ⊎-elim
     (λ st. ⊎-elim (λ z. empty st (z .1))
     (λ ch. ⊎-elim (λ z. placed st _ (z .0) ch (z .1)) (λ f. lost st _ ch f) (goes-or-not d l slots _)) (chooses (widthOf d) (rootSlot d slots)))
-    no-stairs (stairs-or-not (widthOf d) (heightOf d) (nodes d) slots)
+    no-stairs (stairs-or-not (widthOf d) (heightOf d) (slotRows d) (nodes d) slots)
 
 -- edit
 pub data Editing (d : Design) (e : Edit) (before : List ℕ) : Type 0 where
@@ -96,5 +96,5 @@ editing d e before = go (one-lent d (workOf d) before) (know (namesPlace d e))
     go (unlawful f t) _ = unlawful-design f t
     go (short l h) (inl n) = short-work l n h
     go (short l h) (inr n) = unnamed l n
-    go (enough l h) (inl n) = ⊎-elim (granted l n h) (stranger l n h) (stairs-or-not (widthOf d) (heightOf d) (nodes d) (slotsOf d before))
+    go (enough l h) (inl n) = ⊎-elim (granted l n h) (stranger l n h) (stairs-or-not (widthOf d) (heightOf d) (slotRows d) (nodes d) (slotsOf d before))
     go (enough l h) (inr n) = unnamed l n

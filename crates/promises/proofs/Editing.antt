@@ -16,12 +16,14 @@ use Rattle.rules.specs.declared.Refusal.the-variants.{NoSuchEdit}
 use Rattle.rules.specs.declared.Reply.the-variants.{Done, Refused}
 use Rattle.rules.specs.declared.Handed.{Handed}
 use Rattle.rules.specs.Slot.{PastKept}
-use Rattle.rules.specs.Design.{Sized, LawfulDesign, nodeAt, nodes, SuitsOf, slotsOf, OwnLists, widthOf, heightOf}
+use Rattle.rules.specs.Design.{Sized, LawfulDesign, nodeAt, nodes, SuitsOf, slotsOf, OwnLists, widthOf, heightOf, slotRows}
 use Rattle.rules.specs.Edit.{namesPlace, changed, EditedLists}
 use Rattle.rules.specs.Reply.{answer, plannedAnswer}
 use Rattle.rules.specs.Service.{Edits, workOf}
 use Rattle.rules.proofs.Searching.{know}
-use Rattle.rules.proofs.Changing.{edit-lawful, edit-keeps, need-changed, needs-kept, tokens-of-need, cut-turned, needs-of-turn}
+use Rattle.rules.proofs.Changing.{edit-lawful, need-changed, needs-kept, tokens-of-need, cut-turned, needs-of-turn, edit-work, edit-keeps}
+use Rattle.rules.proofs.Limits.{every-row}
+use Rattle.rules.proofs.Agreeing.{on-more-rows}
 use Rattle.rules.proofs.Floorplans.{own-stairs}
 use Rattle.rules.proofs.Reading.{cleared, cleared-same}
 use Rattle.rules.proofs.Relisting.{relisted-own}
@@ -61,6 +63,7 @@ edit-sizes : (d : Design) (e : Edit) → SameSizes d (changed d e)
 edit-sizes d e = let k = edit-keeps d e in record { chip = rw (k .chip) (chip-refl (d .chip)); modules = sym (k .modules) }
 
 sizes-work : {d e : Design} → SameSizes d e → workOf e ≡ workOf d
+unfolding slotRows
 sizes-work s = rw (s .chip .width, s .chip .height, s .modules)
 
 sizes-then : {c d e : Design} → SameSizes c d → SameSizes d e → SameSizes c e
@@ -144,9 +147,9 @@ own-kept S k from start d work t = let own = t .own in record {
   granted = λ e r after x f. let y = k .edit d e work after r x in
       ⊎-elim (λ g. rw (g .answer) (one-change d (own .lawful) (y .sized) e (g .names))) (λ u. absurd (not-granted u f)) (one-edit d e work after r own y);
   fresh = λ before listed r x h. let (_, p, l) = k .list d before listed r x .done (own .lawful) h in
-      same-lists (widthOf d) (heightOf d) (SuitsOf d) (nodeAt d) (nodes d) work listed (own .bytes) (rw (p .length) h) (own .lists) l;
+      same-lists (widthOf d) (heightOf d) (slotRows d) (SuitsOf d) (nodeAt d) (nodes d) work listed (own .bytes) (rw (p .length) h) (own .lists) l;
   off = λ e r after x f t c h on o j b. let y = k .edit d e work after r x in
-      ⊎-elim (λ g. g .lists .off t c h on (rw (g .answer) at o) j b) (λ u. absurd (not-granted u f)) (one-edit d e work after r own y);
+      ⊎-elim (λ g. g .lists .off t c h (on-more-rows (every-row d) on) (rw (g .answer) at o) j b) (λ u. absurd (not-granted u f)) (one-edit d e work after r own y);
   good = own-good d work (own .lists);
   past = t .past;
   sizes = t .sizes;

@@ -15,7 +15,7 @@ use Rattle.rules.specs.Search.{all, least, count, total}
 use Rattle.rules.specs.Chip.{corner, shape, rectangle, column, columnOf, coversBlock, heldBetween, holds}
 use Rattle.rules.specs.Tree.{refused, has, stands, joined, added, standing}
 use Rattle.rules.specs.Placement.{Placement}
-use Rattle.rules.specs.Design.{Sized, LawfulDesign, LawfulPlacement, nodes, standingOf, valueTest, lawfulChip, withinLimits, inRange, lawfulNeed}
+use Rattle.rules.specs.Design.{Sized, LawfulDesign, LawfulPlacement, nodes, standingOf, valueTest, lawfulChip, withinLimits, inRange, lawfulNeed, slotRows}
 use Rattle.rules.specs.Edit.{namesPlace, changed}
 use Rattle.rules.specs.Bytes.{padded}
 use Rattle.rules.specs.Check.{fromRows, isOnChip, isAtMost, isKept, judgedCuts, judgedRows, verdict}
@@ -48,7 +48,7 @@ twice = design (0 ∷ 1 ∷ 2 ∷ 0 ∷ 0 ∷ []) 6 3 (need 2 1 0 ∷ need 3 0 1
 
 -- which of them are lawful, and which edits name a place
 pub D-lawful : LawfulDesign D
-unfolding D padded all stands has joined added standing valueTest withinLimits lawfulChip inRange lawfulNeed
+unfolding D slotRows padded all stands has joined added standing valueTest withinLimits lawfulChip inRange lawfulNeed
 D-lawful = refl
 
 pub tall-breaks-limits : So (withinLimits tall) → ⊥
@@ -60,28 +60,28 @@ unfolding twice padded all stands has joined added standing withinLimits lawfulC
 twice-bad-token = (refl, refl)
 
 pub names-turned : So (namesPlace D (Turn 2))
-unfolding D padded namesPlace
+unfolding D slotRows padded namesPlace
 names-turned = refl
 
 pub names-grown : So (namesPlace D (Change 1 (need 4 0 1)))
-unfolding D namesPlace lawfulNeed
+unfolding D slotRows namesPlace lawfulNeed
 names-grown = refl
 
 pub names-starved : So (namesPlace D (Change 0 (need 2 3 0)))
-unfolding D namesPlace lawfulNeed
+unfolding D slotRows namesPlace lawfulNeed
 names-starved = refl
 
 pub names-no-zero-need : So (namesPlace D (Change 0 (need 0 0 0))) → ⊥
-unfolding D namesPlace lawfulNeed
+unfolding D slotRows namesPlace lawfulNeed
 names-no-zero-need = absurd-so
 
 -- room enough for D and its edits: 450 bytes of work and 8 of rows
 pub D-enough : (work rows : List ℕ) → 450 ≤ length work → 8 ≤ length rows → Enough D work rows
-unfolding D
+unfolding D slotRows
 D-enough work rows h k = record { lawful = D-lawful; bytes = h; places = k }
 
 pub edited-enough : (e : Edit) → So (namesPlace D e) → (work rows : List ℕ) → 450 ≤ length work → 8 ≤ length rows → Enough (changed D e) work rows
-unfolding D changed
+unfolding D slotRows changed
 edited-enough (Change k n) s work rows h i = record { lawful = edit-lawful D D-lawful (Change k n) s; bytes = h; places = i }
 edited-enough (Turn t) s work rows h i = record { lawful = edit-lawful D D-lawful (Turn t) s; bytes = h; places = i }
 
@@ -135,7 +135,7 @@ abbrev pub one-cell-shared : List ℕ
 one-cell-shared = 0 ∷ 0 ∷ 2 ∷ 3 ∷ 1 ∷ 2 ∷ 2 ∷ 3 ∷ []
 
 verdicts : (verdict D printed ≡ Done) × (verdict D over-the-side ≡ Refused (OffTheChip 1)) × (verdict D half-block ≡ Refused (ShortOfNeed 0))
-unfolding D padded all least count total stands has joined added standing valueTest withinLimits lawfulChip inRange lawfulNeed
+unfolding D slotRows padded all least count total stands has joined added standing valueTest withinLimits lawfulChip inRange lawfulNeed
     columnOf coversBlock heldBetween holds column fromRows isOnChip isAtMost isKept judgedCuts judgedRows verdict
 verdicts = (refl, refl, refl)
 

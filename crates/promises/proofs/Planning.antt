@@ -23,8 +23,9 @@ use Rattle.rules.specs.Service.{Lists, Plans, Places, Enough, workOf, rowsOf}
 use Rattle.rules.proofs.Suiting.{design-decides}
 use Rattle.rules.proofs.Listing.{list-complete, list-sorted, list-unique, same-stores}
 use Rattle.rules.proofs.Nodes.{lawful-tree, part-node, last-node}
-use Rattle.rules.proofs.Agreeing.{Agree, chosen-agree, down-agree}
+use Rattle.rules.proofs.Agreeing.{Agree, chosen-agree, down-agree, on-more-rows, agree-on}
 use Rattle.rules.proofs.Placing.{lawful-same, furthest-same}
+use Rattle.rules.proofs.Limits.{every-row}
 use Rattle.rules.proofs.Planning.{follow-apart}
 use Rattle.rules.proofs.Floorplans.{Floorplan, planned, own-stairs, corner-zero}
 use Rattle.rules.proofs.RowsOut.{rows-back}
@@ -33,7 +34,7 @@ use Rattle.promises.specs.Demand2.{GoodLists, NoPlacement, GoodPlan, Pla
 
 -- "Each list is complete, sorted and free of dominated shapes": a design's own lists are
 pub own-good : (d : Design) (work : List ℕ) → OwnLists d (slotsOf d work) → GoodLists d work
-own-good d work own t c h on = let l = own t h c on in record {
+own-good d work own t c h on = let l = own t h c (on-more-rows (every-row d) on) in record {
   shapes = λ s z. l s .0 z .is;
   complete = λ s z. let (o, i, e) = list-complete (design-decides d) (nodeAt d t) c s z in (o, l o .1 i, e);
   sorted = λ s o x y. list-sorted (widthOf d) (slotsOf d work t c) l s o x y;
@@ -84,7 +85,7 @@ module _ (d : Design) (before rows after rows' : List ℕ) (r : Planned) (x : Pl
       let lent : Enough d work rows = record { lawful = h .lawful; bytes = w; places = h .places } in
       let st = own-stairs d (h .lawful) (slotsOf d work) own in
       let same : (t : ℕ) → t < nodes d → Agree W H (slotsOf d after t) (slotsOf d work t) =
-      λ t b. record { at = λ c on. list-unique W (slotsOf d after t c) (slotsOf d work t c) (o t b c on) (own t b c on) } in
+      λ t b. agree-on (every-row d) (record { at = λ c on. list-unique W (slotsOf d after t c) (slotsOf d work t c) (o t b c on) (own t b c on) }) in
       let root-same = same (nodes d - 1) (last-node d (h .lawful)) .at (corner 0 0) (corner-zero d (h .lawful)) in
       ⊎-elim
       (λ n. let (a, b) = x .none h (n .0) in

@@ -19,7 +19,7 @@ use Rattle.rules.specs.Search.{all, count, total}
 use Rattle.rules.specs.Chip.{OnChip, corner, shape, column, columnOf, coversBlock, heldBetween, holds}
 use Rattle.rules.specs.Tree.{stands, has, joined, added, standing}
 use Rattle.rules.specs.Slot.{slot}
-use Rattle.rules.specs.Design.{LawfulDesign, LawfulPlacement, SuitsOf, inRange, lawfulNeed, slotsOf, AllStairs, OwnLists, widthOf}
+use Rattle.rules.specs.Design.{LawfulDesign, LawfulPlacement, SuitsOf, inRange, lawfulNeed, slotsOf, AllStairs, OwnLists, widthOf, slotRows}
 use Rattle.rules.specs.Bytes.{took, refuse, padded, numberBytes, needBytes, rowBytes, designBytes, numberAt, secondByte, thirdByte, checkedAt, rowAt, needOf, tokensAt, designAt}
 use Rattle.rules.specs.Check.{fromRows, FirstOff, FirstShort}
 use Rattle.rules.specs.Reply.{Answer, plainly, refusal, answer, writtenAnswer, plannedAnswer}
@@ -33,7 +33,7 @@ use Rattle.promises.proofs.Inputs.{D-lawful, D-plan, D-enough, tall, ta
 
 -- D's bytes, and D's length in bytes
 D-bytes : length (designBytes D) ≡ 19
-unfolding D padded numberBytes needBytes rowBytes designBytes
+unfolding D slotRows padded numberBytes needBytes rowBytes designBytes
 D-bytes = refl
 
 -- two answers with other numbers are not the same
@@ -61,7 +61,7 @@ read-accepted q (Demand1.extra-bytes p) = let z : _≡_ {A = ℕ} 0 1 = cc in ab
 
 -- D's bytes, D's bytes and one more, and none
 reads-D : designAt (bytesEnding (2 ∷ 3 ∷ 0 ∷ [])) ≡ took D 19
-unfolding D padded all stands has joined added inRange lawfulNeed numberAt secondByte thirdByte checkedAt rowAt needOf tokensAt designAt
+unfolding D slotRows padded all stands has joined added inRange lawfulNeed numberAt secondByte thirdByte checkedAt rowAt needOf tokensAt designAt
 reads-D = refl
 
 reads-one-more : (v : ℕ) → designAt (bytesEnding (2 ∷ 3 ∷ 0 ∷ v ∷ [])) ≡ refuse (ExtraBytes 19)
@@ -77,7 +77,7 @@ pub stranger : List ℕ
 stranger = replicate 450 255
 
 pub no-stairs : AllStairs D (slotsOf D stranger) → ⊥
-unfolding D slot stranger
+unfolding D slotRows slot stranger
 no-stairs st =
     let h = st 0 (corner 0 0) (omega arith) (record { column = omega arith; row = omega arith }) .rows 0 (omega arith) in omega arith
 
@@ -87,11 +87,11 @@ stranger-long = length-replicate {A = ℕ} 450 255
 
 -- module 0 of D in the rows 1 to 3 holds no RAM block
 pub half-not-suited : SuitsOf D 0 (fromRows half-block 0) → ⊥
-unfolding D fromRows columnOf coversBlock heldBetween holds column count total padded
+unfolding D slotRows fromRows columnOf coversBlock heldBetween holds column count total padded
 half-not-suited s = let h = s .rams in omega arith
 
 half-not-lawful : LawfulPlacement D (fromRows half-block) → ⊥
-unfolding D padded stands has joined added standing
+unfolding D slotRows padded stands has joined added standing
 half-not-lawful l = half-not-suited (l .suits 0 refl)
 
 module _ (S : Services) (demand : Demand1.Demand1 S) where
@@ -107,7 +107,7 @@ module _ (S : Services) (demand : Demand1.Demand1 S) where
   reader-refuses-all r x = read-accepted reads-D (demand .numbered .read _ r x)
 
   pub reader-hands-back-a-design : (r : Handed) → S .read [] r → r .design ≡ D → ⊥
-  unfolding D zeros
+  unfolding D slotRows zeros
   reader-hands-back-a-design r x e =
       let a = reader-takes-nothing r x in let q = demand .leaving .read [] r x (λ n. let z = ap (λ b. b .number) a in omega arith) in
       let z = ap (λ d. widthOf d) (sym e ∙ q) in omega arith
@@ -138,7 +138,7 @@ module _ (S : Services) (demand : Demand1.Demand1 S) where
 
   -- list: D refused with room; work cleared before its length is looked at
   pub lister-refuses-all : (before after : List ℕ) (r : Reply) → 450 ≤ length before → S .list D before r after → answer r ≡ plainly 0 0
-  unfolding D
+  unfolding D slotRows
   lister-refuses-all before after r h x = go (of-lawful D-lawful (demand .numbered .list D before after r x))
     where
       go : {a : Answer} → Demand1.ListNumbered D before a → a ≡ plainly 0 0
@@ -151,7 +151,7 @@ module _ (S : Services) (demand : Demand1.Demand1 S) where
       (a, demand .leaving .list tall before after r x (λ n. let z = ap (λ b. b .number) a in omega arith))
 
   pub lister-clears-first : (r : Reply) → S .list D (1 ∷ []) r (0 ∷ []) → ⊥
-  unfolding D
+  unfolding D slotRows
   lister-clears-first r x =
       let a = go (of-lawful D-lawful (demand .numbered .list D (1 ∷ []) (0 ∷ []) r x)) in
       let q = demand .leaving .list D (1 ∷ []) (0 ∷ []) r x (λ n. let z = ap (λ b. b .number) a in omega arith) in
@@ -165,7 +165,7 @@ module _ (S : Services) (demand : Demand1.Demand1 S) where
   -- whose rows are not
   pub planner-takes-few-rows : (before after rows' : List ℕ) (r : Planned) → S .plan D before [] r after rows'
       → (plannedAnswer r ≡ plainly 8 0) × (after ≡ before) × (rows' ≡ [])
-  unfolding D
+  unfolding D slotRows
   planner-takes-few-rows before after rows' r x =
       let a = go (of-lawful D-lawful (demand .numbered .plan D before [] after rows' r x)) in
       let q = demand .leaving .plan D before [] after rows' r x (λ n. let z = ap (λ b. b .number) a in omega arith) in
@@ -192,7 +192,7 @@ module _ (S : Services) (demand : Demand1.Demand1 S) where
   -- place: a stranger's bytes not tested, or rows written all the same
   pub placer-skips-the-stair-test : (rows rows' : List ℕ) (r : Planned) → 8 ≤ length rows → S .place D stranger rows r rows'
       → (plannedAnswer r ≡ plainly 9 0) × (rows' ≡ rows)
-  unfolding D
+  unfolding D slotRows
   placer-skips-the-stair-test rows rows' r h x =
       let a = go (of-lawful D-lawful (demand .numbered .place D stranger rows rows' r x)) in
       (a, demand .leaving .place D stranger rows rows' r x (λ n. let z = ap (λ b. b .number) a in omega arith))
@@ -245,7 +245,7 @@ module _ (S : Services) (demand : Demand1.Demand1 S) where
 
   pub edit-skips-the-stair-test : (after : List ℕ) (r : Handed) → S .edit D (Turn 2) stranger r after
       → (answer (r .reply) ≡ plainly 9 0) × (r .design ≡ D) × (after ≡ stranger)
-  unfolding D
+  unfolding D slotRows
   edit-skips-the-stair-test after r x =
       let a = go (of-lawful D-lawful (demand .numbered .edit D _ stranger after r x)) in
       let (b, c) = demand .leaving .edit D _ stranger after r x (λ n. let z = ap (λ b. b .number) a in omega arith) in (a, b, c)
@@ -257,7 +257,7 @@ module _ (S : Services) (demand : Demand1.Demand1 S) where
       go (Demand1.done _ _ st) = absurd (no-stairs st)
 
   pub edit-takes-few-bytes : (after : List ℕ) (r : Handed) → S .edit D (Turn 2) [] r after → answer (r .reply) ≡ plainly 8 0
-  unfolding D
+  unfolding D slotRows
   edit-takes-few-bytes after r x = go (of-lawful D-lawful (demand .numbered .edit D _ [] after r x))
     where
       go : {a : Answer} → Demand1.EditNumbered D (Turn 2) [] a → a ≡ plainly 8 0
@@ -268,7 +268,7 @@ module _ (S : Services) (demand : Demand1.Demand1 S) where
 
   -- check: a module over the chip's side passed, or another named; a block covered in part counted; too few rows let through
   pub checker-takes-few-rows : (r : Reply) → S .check D [] r → answer r ≡ plainly 8 0
-  unfolding D
+  unfolding D slotRows
   checker-takes-few-rows r x = go (of-lawful D-lawful (demand .numbered .check D [] r x))
     where
       go : {a : Answer} → Demand1.CheckNumbered D [] a → a ≡ plainly 8 0
@@ -279,7 +279,7 @@ module _ (S : Services) (demand : Demand1.Demand1 S) where
       go (Demand1.done l _) = absurd (omega arith)
 
   pub checker-passes-all : (r : Reply) → S .check D over-the-side r → answer r .number ≡ 0 → ⊥
-  unfolding D padded fromRows stands has joined added standing
+  unfolding D slotRows padded fromRows stands has joined added standing
   checker-passes-all r x e = go (of-lawful D-lawful (demand .numbered .check D over-the-side r x)) e
     where
       go : {a : Answer} → Demand1.CheckNumbered D over-the-side a → a .number ≡ 0 → ⊥
@@ -291,7 +291,7 @@ module _ (S : Services) (demand : Demand1.Demand1 S) where
 
   -- module 0 of those rows is on the chip, so it is not the one to name; module 0 of the half block is short, so the next one is not
   pub checker-names-another : (r : Reply) → S .check D over-the-side r → answer r ≡ plainly 12 0 → ⊥
-  unfolding D fromRows
+  unfolding D slotRows fromRows
   checker-names-another r x e = go (of-lawful D-lawful (demand .numbered .check D over-the-side r x)) e
     where
       on : OnChip 5 6 (fromRows over-the-side 0)
@@ -316,7 +316,7 @@ module _ (S : Services) (demand : Demand1.Demand1 S) where
 
   -- the cut of D stands at position 2, and no other token is a cut
   pub checker-names-a-leaf : (rows : List ℕ) (r : Reply) → S .check D rows r → answer r ≡ plainly 14 0 → ⊥
-  unfolding D padded stands has joined added standing
+  unfolding D slotRows padded stands has joined added standing
   checker-names-a-leaf rows r x e = go (of-lawful D-lawful (demand .numbered .check D rows r x)) e
     where
       go : {a : Answer} → Demand1.CheckNumbered D rows a → a ≡ plainly 14 0 → ⊥

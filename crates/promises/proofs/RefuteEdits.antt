@@ -22,7 +22,7 @@ use Rattle.rules.specs.Chip.{OnChip, corner, shape, rectangle, column, columnOf
 use Rattle.rules.specs.Tree.{spans, stands, has, joined, added, standing}
 use Rattle.rules.specs.Shape.{Realizes, ShapeAt, Listed}
 use Rattle.rules.specs.Slot.{slot, Stores}
-use Rattle.rules.specs.Design.{needAt, tokenAt, SuitsOf, root, nodeAt, slotsOf, LawfulDesign}
+use Rattle.rules.specs.Design.{needAt, tokenAt, SuitsOf, root, nodeAt, slotsOf, LawfulDesign, slotRows}
 use Rattle.rules.specs.Edit.{other, changed, changedNode}
 use Rattle.rules.specs.Bytes.{padded, numberBytes, needBytes, rowBytes, designBytes}
 use Rattle.rules.specs.Reply.{answer, writtenAnswer, plannedAnswer}
@@ -39,7 +39,7 @@ use Rattle.promises.proofs.RefutePlans.{never-empty}
 
 -- The root of D at (0, 0) has the shape (4, 3), and that of D with its cut turned has (3, 6) alone listed: no bytes are good lists of both.
 D-shape : ShapeAt 5 6 (SuitsOf D) (nodeAt D 2) (corner 0 0) (shape 4 3)
-unfolding D padded Realizes stands has joined added standing columnOf coversBlock heldBetween holds column count total
+unfolding D slotRows padded Realizes stands has joined added standing columnOf coversBlock heldBetween holds column count total
 D-shape =
     let on : (x w : ℕ) → 1 ≤ w → x + w ≤ 5 → OnChip 5 6 (rectangle x 0 w 3) = λ x w a b. record { wide = a; high = omega arith; columns = b; rows = omega arith } in (
       rectangle 0 0 2 3,
@@ -51,7 +51,7 @@ D-shape =
     )
 
 turned-listed : (o : Shape) → Listed 5 6 (SuitsOf turned) (nodeAt turned 2) (corner 0 0) o → o .h .0 ≡ 6
-unfolding D changed OneOf Says
+unfolding D slotRows changed OneOf Says
 turned-listed o l = go (turned-list o .0 l)
   where
     go : OneOf o (shape 3 6 ∷ []) → o .h .0 ≡ 6
@@ -60,11 +60,11 @@ turned-listed o l = go (turned-list o .0 l)
 
 -- the root's slot lies in the first 450 bytes
 root-bytes : (a b : List ℕ) → take 450 a ≡ take 450 b → (j : ℕ) → j < 5 → slotsOf D a 2 (corner 0 0) j ≡ slotsOf D b 2 (corner 0 0) j
-unfolding D slot
+unfolding D slotRows slot
 root-bytes a b e j h = sym (getD-take 450 a (300 + j) 0 (omega arith)) ∙ ap (λ l. getD l (300 + j) 0) e ∙ getD-take 450 b (300 + j) 0 (omega arith)
 
 lists-differ : (a b : List ℕ) → GoodLists D a → GoodLists turned b → take 450 a ≡ take 450 b → ⊥
-unfolding D changed
+unfolding D slotRows changed
 lists-differ a b f g e =
     let (o, z, d) = f 2 (corner 0 0) (omega arith) (record { column = omega arith; row = omega arith }) .complete (shape 4 3) D-shape in
     let l = g 2 (corner 0 0) (omega arith) (record { column = omega arith; row = omega arith }) in
@@ -74,7 +74,7 @@ lists-differ a b f g e =
 
 -- D takes 19 bytes; a cut is not its own other kind
 D-fits : (out : List ℕ) → 19 ≤ length out → length (designBytes D) ≤ length out
-unfolding D padded numberBytes needBytes rowBytes designBytes
+unfolding D slotRows padded numberBytes needBytes rowBytes designBytes
 D-fits out h = h
 
 never-other : (c : Direction) → Cut c ≡ Cut (other c) → ⊥
@@ -84,7 +84,7 @@ never-other Horizontal e = let z : _≡_ {A = ℕ} 0 1 = cc in omega arith
 module _ (S : Services) (demand : Demand3 S) (start work : List ℕ) (q : Reply) (room : 450 ≤ length start) (begun : S .list D start q work) where
   -- a run begins with D's lists
   first : Run S D start D work
-  unfolding D
+  unfolding D slotRows
   first = listed D-lawful room begun
 
   -- "an edit that refuses all"; and one that refuses with another number than 11
@@ -103,7 +103,7 @@ module _ (S : Services) (demand : Demand3 S) (start work : List ℕ) (q : Reply)
     edit-changes-nothing e = let (c, a, b) = turning .cut in never-other c (sym a ∙ ap (λ d. tokenAt d 2) (sym e) ∙ b)
 
     pub edit-moves-a-module : getD (r .design .tokens) 1 0 ≡ 3
-    unfolding D padded
+    unfolding D slotRows padded
     edit-moves-a-module = turning .tokens 1 (λ e. omega arith)
 
     pub edit-takes-a-need-away : r .design .needs ≡ D .needs
@@ -113,7 +113,7 @@ module _ (S : Services) (demand : Demand3 S) (start work : List ℕ) (q : Reply)
     edit-turns-the-chip-too = turning .chip
 
     pub edit-loses-a-module : r .design .modules ≡ 2
-    unfolding D
+    unfolding D slotRows
     edit-loses-a-module = turning .modules
 
     next : Run S D start (r .design) after
@@ -121,7 +121,7 @@ module _ (S : Services) (demand : Demand3 S) (start work : List ℕ) (q : Reply)
 
     -- an edit that keeps the lists, or leaves none; one that writes past them
     pub edit-keeps-lists : Demand2 S → r .design ≡ turned → after ≡ work → (before fresh : List ℕ) (q' : Reply) → 450 ≤ length before → S .list turned before q' fresh → ⊥
-    unfolding D changed
+    unfolding D slotRows changed
     edit-keeps-lists two e same before fresh q' h y =
         let g = two .listed D start work q begun D-lawful room .1 in
         let t = two .listed turned before fresh q' y (edit-lawful D D-lawful (Turn 2) names-turned) h .1 in
@@ -132,7 +132,7 @@ module _ (S : Services) (demand : Demand3 S) (start work : List ℕ) (q : Reply)
     edit-leaves-no-lists e n z = never-empty n (rw (e, z) at (demand .kept D start (r .design) after next) .good)
 
     pub edit-writes-past-the-lists : (i : ℕ) → 450 ≤ i → getD after i 0 ≡ getD start i 0
-    unfolding D
+    unfolding D slotRows
     edit-writes-past-the-lists i h =
         let k = demand .kept D start (r .design) after next in let s = k .sizes in
         let w : workOf (r .design) ≡ 450 = rw (← s .chip .width, ← s .chip .height, ← s .modules) in k .past .past i (rw w h)
@@ -140,7 +140,7 @@ module _ (S : Services) (demand : Demand3 S) (start work : List ℕ) (q : Reply)
     -- "or relists the first time and later only alters the design": the cut is turned back over the same bytes
     pub edit-relists-once : Demand2 S → r .design ≡ turned → (r' : Handed) → S .edit (r .design) (Turn 2) after r' after → r' .design ≡ D
         → (before fresh : List ℕ) (q' : Reply) → 450 ≤ length before → S .list turned before q' fresh → ⊥
-    unfolding D changed
+    unfolding D slotRows changed
     edit-relists-once two e r' y back before fresh q' h z =
         let g = two .listed D start work q begun D-lawful room .1 in
         let t = two .listed turned before fresh q' z (edit-lawful D D-lawful (Turn 2) names-turned) h .1 in
@@ -162,7 +162,7 @@ module _ (S : Services) (demand : Demand3 S) (start work : List ℕ) (q : Reply)
     edit-takes-no-need = changing .need
 
     pub edit-changes-another-need : needAt (r .design) 0 ≡ need 2 1 0
-    unfolding D padded
+    unfolding D slotRows padded
     edit-changes-another-need = changing .needs 0 (λ e. omega arith)
 
     pub edit-turns-a-cut : r .design .tokens ≡ D .tokens
@@ -172,11 +172,11 @@ module _ (S : Services) (demand : Demand3 S) (start work : List ℕ) (q : Reply)
     edit-changes-the-chip = changing .chip
 
     pub edit-adds-a-module : r .design .modules ≡ 2
-    unfolding D
+    unfolding D slotRows
     edit-adds-a-module = changing .modules
 
     pub edit-spoils-a-sibling : r .design ≡ grown → (j : ℕ) → j < 5 → slotsOf D after 0 (corner 0 0) j ≡ slotsOf D work 0 (corner 0 0) j
-    unfolding D changed padded changedNode least stands has joined added standing spans
+    unfolding D slotRows changed padded changedNode least stands has joined added standing spans
     edit-spoils-a-sibling e j h =
         demand .kept D start D work first .off _ r after x done 0 (corner 0 0) (omega arith) (record { column = omega arith; row = omega arith })
         (rw e absurd-so) j h

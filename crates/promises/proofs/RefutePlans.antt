@@ -20,7 +20,7 @@ use Rattle.rules.specs.Tree.{has, stands, joined, added, standing}
 use Rattle.rules.specs.Placement.{Follows, furthest, box, area}
 use Rattle.rules.specs.Shape.{Realizes, ShapeAt}
 use Rattle.rules.specs.Slot.{slot, Stores, CornerOn}
-use Rattle.rules.specs.Design.{needAt, SuitsOf, root, nodeAt, slotsOf, OwnLists}
+use Rattle.rules.specs.Design.{needAt, SuitsOf, root, nodeAt, slotsOf, OwnLists, slotRows}
 use Rattle.rules.specs.Edit.{changed}
 use Rattle.rules.specs.Bytes.{AreBytes, padded, numberBytes, needBytes, rowBytes, designBytes}
 use Rattle.rules.specs.Check.{fromRows}
@@ -35,14 +35,14 @@ use Rattle.promises.proofs.RefuteAnswers.{half-not-suited}
 
 -- module 0 of D at (0, 0): the node's shapes there have (2, 3) among them, and not (1, 1)
 leaf-shape : ShapeAt 5 6 (SuitsOf D) (nodeAt D 0) (corner 0 0) (shape 2 3)
-unfolding D padded Realizes stands has joined added standing columnOf coversBlock heldBetween holds column count total
+unfolding D slotRows padded Realizes stands has joined added standing columnOf coversBlock heldBetween holds column count total
 leaf-shape = (
   record { wide = omega arith; high = omega arith; columns = omega arith; rows = omega arith },
   record { clbs = omega arith; rams = omega arith; multipliers = omega arith },
 )
 
 no-leaf-shape : ShapeAt 5 6 (SuitsOf D) (nodeAt D 0) (corner 0 0) (shape 1 1) → ⊥
-unfolding D padded Realizes stands has joined added standing columnOf coversBlock heldBetween holds column count total
+unfolding D slotRows padded Realizes stands has joined added standing columnOf coversBlock heldBetween holds column count total
 no-leaf-shape z = let h = z .1 .rams in omega arith
 
 -- the slot of module 0's leaf at (0, 0), after a good listing of D
@@ -50,7 +50,7 @@ abbrev leafSlot : List ℕ → ℕ → ℕ
 leafSlot work = slotsOf D work 0 (corner 0 0)
 
 leaf-list : (work : List ℕ) → GoodLists D work → GoodList D 0 (corner 0 0) (leafSlot work)
-unfolding D
+unfolding D slotRows
 leaf-list work g = g 0 (corner 0 0) (omega arith) (record { column = omega arith; row = omega arith })
 
 -- what no good list of it is: empty, with a shape that is none, not falling, with a dominated shape
@@ -60,21 +60,21 @@ all-zeros (suc n) zero = refl
 all-zeros (suc n) (suc i) = all-zeros n i
 
 pub never-empty : (n : ℕ) → GoodLists D (replicate n 0) → ⊥
-unfolding D slot
+unfolding D slotRows slot
 never-empty n g =
     let (o, z, _) = leaf-list (replicate n 0) g .complete (shape 2 3) leaf-shape in
     let e : 0 ≡ o .h .0 = rw all-zeros at (z .byte) in let h = z .high in omega arith
 
 never-a-stray-shape : (work : List ℕ) → GoodLists D work → Stores 5 (leafSlot work) (shape 1 1) → ⊥
-unfolding D
+unfolding D slotRows
 never-a-stray-shape work g z = no-leaf-shape (leaf-list work g .shapes (shape 1 1) z)
 
 never-level : (work : List ℕ) → GoodLists D work → (w v h : ℕ) → w < v → Stores 5 (leafSlot work) (shape w h) → Stores 5 (leafSlot work) (shape v h) → ⊥
-unfolding D
+unfolding D slotRows
 never-level work g w v h l y z = let e = leaf-list work g .sorted (shape w h) (shape v h) y z l in omega arith
 
 never-dominated : (work : List ℕ) → GoodLists D work → Stores 5 (leafSlot work) (shape 3 3) → ⊥
-unfolding D
+unfolding D slotRows
 never-dominated work g z =
     let e = leaf-list work g .undominated (shape 3 3) (shape 2 3) z leaf-shape (record { wide = omega arith; high = omega arith }) in
     let q = ap (λ s. s .w .0) e in omega arith
@@ -101,7 +101,7 @@ module _ (S : Services) (demand : Demand2 S) where
   -- "a listing that writes nothing", or lists what is no shape, or two of one height, or a dominated one; or refuses
   module _ (before after : List ℕ) (r : Reply) (x : S .list D before r after) (h : 450 ≤ length before) where
     listed : (answer r .number ≡ 0) × GoodLists D after
-    unfolding D
+    unfolding D slotRows
     listed = demand .listed D before after r x D-lawful h
 
     pub listing-refuses-all : answer r .number ≡ 0
@@ -136,30 +136,30 @@ module _ (S : Services) (demand : Demand2 S) where
 
     -- the modules exchanged; one over the chip's side; the RAM block of the incident, covered in part; two that share a cell
     pub planner-exchanges-modules : rows' ≡ exchanged → ⊥
-    unfolding D padded Follows fromRows stands has joined added standing
+    unfolding D slotRows padded Follows fromRows stands has joined added standing
     planner-exchanges-modules e = let f = (rw e at (planned .1)) .follow in let c = f .2 0 1 refl refl in omega arith
 
     pub planner-leaves-the-chip : rows' ≡ over-the-side → ⊥
-    unfolding D fromRows
+    unfolding D slotRows fromRows
     planner-leaves-the-chip e = let c = (rw e at (planned .1)) .on-chip 1 (omega arith) .columns in omega arith
 
     pub planner-counts-half : rows' ≡ half-block → ⊥
-    unfolding D
+    unfolding D slotRows
     planner-counts-half e = half-not-suited ((rw e at (planned .1)) .meet 0 (omega arith))
 
     pub planner-shares-a-cell : rows' ≡ one-cell-shared → ⊥
-    unfolding D fromRows
+    unfolding D slotRows fromRows
     planner-shares-a-cell e =
         let c = (rw e at (planned .1)) .apart 0 1 1 2 (omega arith) (omega arith)
         (record { column = (omega arith, omega arith); row = (omega arith, omega arith) }) (record { column = (omega arith, omega arith); row = (omega arith, omega arith) }) in omega arith
 
     -- a box larger than the least, and one that is not the rows'
     pub planner-takes-the-whole-width : plannedAnswer r .box ≡ shape 5 3 → ⊥
-    unfolding D padded furthest fromRows stands has joined added standing
+    unfolding D slotRows padded furthest fromRows stands has joined added standing
     planner-takes-the-whole-width e = let a = planned .1 .smallest (fromRows printed) printed-lawful in let q = ap area e in omega arith
 
     pub planner-invents-the-box : rows' ≡ printed → plannedAnswer r .box ≡ shape 0 0 → ⊥
-    unfolding D padded furthest fromRows stands has joined added standing
+    unfolding D slotRows padded furthest fromRows stands has joined added standing
     planner-invents-the-box e b = let q = (rw e at (planned .1)) .boxed in let z = ap (λ s. s .w .0) (sym b ∙ q) in omega arith
 
   -- a planner that finds a floorplan for everything
@@ -171,7 +171,7 @@ module _ (S : Services) (demand : Demand2 S) where
   -- "or one fixed floorplan": the one that 01 prints for D, where D's cut is turned
   pub planner-fixed : (before rows after : List ℕ) (r : Planned) → 450 ≤ length before → 8 ≤ length rows
       → S .plan turned before rows r after printed → plannedAnswer r .number ≡ 0 → ⊥
-  unfolding D changed padded Follows fromRows stands has joined added standing
+  unfolding D slotRows changed padded Follows fromRows stands has joined added standing
   planner-fixed before rows after r h k x e =
       let (_, g) = demand .planned turned before rows after printed r x (edited-enough _ names-turned before rows h k) .otherwise (λ n. omega arith) in
       let c = g .follow .2 0 1 refl refl in omega arith
@@ -184,11 +184,11 @@ module _ (S : Services) (demand : Demand2 S) where
 
   -- a checker that refuses all, and one that counts a block covered in part
   pub checker-refuses-all : (r : Reply) → S .check D printed r → answer r .number ≡ 0
-  unfolding D
+  unfolding D slotRows
   checker-refuses-all r x = demand .checked D printed r x D-lawful (omega arith) .1 printed-lawful
 
   pub checker-counts-half : (r : Reply) → S .check D half-block r → answer r .number ≡ 0 → ⊥
-  unfolding D padded stands has joined added standing
+  unfolding D slotRows padded stands has joined added standing
   checker-counts-half r x e = half-not-suited (demand .checked D half-block r x D-lawful (omega arith) .0 e .suits 0 refl)
 
   -- "a writer with an invented byte count", of D's bytes and of those with a number of two bytes; and one that puts other bytes
@@ -204,19 +204,19 @@ module _ (S : Services) (demand : Demand2 S) where
   module _ (before after : List ℕ) (w : Written) (r : Handed) (x : S .write D before w after) (h : 19 ≤ length before)
       (y : S .read (take (writtenAnswer w .value) after) r) where
     D-fits : length (designBytes D) ≤ length before
-    unfolding D padded numberBytes needBytes rowBytes designBytes
+    unfolding D slotRows padded numberBytes needBytes rowBytes designBytes
     D-fits = h
 
     pub reader-loses-the-block-height : r .design .chip .block .0 ≡ 3
-    unfolding D
+    unfolding D slotRows
     reader-loses-the-block-height = sym (ap (λ b. b .0) (demand .design-again D before after w r D-lawful x D-fits y .1 .chip .block))
 
     pub reader-loses-a-ram : needAt (r .design) 0 ≡ need 2 1 0
-    unfolding D padded
+    unfolding D slotRows padded
     reader-loses-a-ram = sym (demand .design-again D before after w r D-lawful x D-fits y .1 .needs 0 (omega arith))
 
     pub reader-loses-a-module : getD (r .design .tokens) 1 0 ≡ 3
-    unfolding D padded
+    unfolding D slotRows padded
     reader-loses-a-module = sym (demand .design-again D before after w r D-lawful x D-fits y .1 .tokens 1 (omega arith))
 
     pub reader-refuses-its-own : answer (r .reply) .number ≡ 0

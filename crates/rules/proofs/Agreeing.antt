@@ -1,14 +1,15 @@
 -- Slots that agree at the corners of the chip say the same: pairs, choices and what goes down hang on those bytes alone.
 -- Assumes nothing.
 use mathlib.Core.Path.{_≡_, sym}
-use Prim.Native.Nat.{ℕ, _<_}
+use Prim.Native.Nat.{ℕ, _≤_, _<_}
+use native.Mathlib.Omega.{arith}
 use Rattle.rules.specs.declared.Corner.{Corner}
 use Rattle.rules.specs.declared.Shape.{Shape}
 use Rattle.rules.specs.declared.Rectangle.{Rectangle}
 use Rattle.rules.specs.declared.Direction.{Direction}
 use Rattle.rules.specs.Tree.{Tree, leaf, cut, position}
 use Rattle.rules.specs.Placement.{Placement}
-use Rattle.rules.specs.Slot.{CornerOn}
+use Rattle.rules.specs.Slot.{CornerOn, ListsAt}
 use Rattle.rules.specs.Choice.{Chosen, Pair, Taken, Down, beside}
 use Rattle.rules.specs.Edit.{Paired}
 use Rattle.rules.proofs.Standing.{Part, whole, in-left, in-right}
@@ -16,6 +17,17 @@ use Rattle.rules.proofs.Listing.{same-stores}
 
 pub record Agree (W H : ℕ) (g g' : Corner → ℕ → ℕ) : Type 0 where
   pub at : (c : Corner) → CornerOn W H c → (j : ℕ) → j < W → g c j ≡ g' c j
+
+-- a corner in the first rows is one in more rows, so slots that agree in these agree in those
+pub on-more-rows : {W H R : ℕ} {c : Corner} → H ≤ R → CornerOn W H c → CornerOn W R c
+on-more-rows h on = let r = on .row in record { column = on .column; row = omega arith }
+
+pub agree-on : {W H R : ℕ} {g g' : Corner → ℕ → ℕ} → H ≤ R → Agree W R g g' → Agree W H g g'
+agree-on h e = record { at = λ c on. e .at c (on-more-rows h on) }
+
+-- lists at the corners that have slots are lists at every corner of the chip, where every row of it has slots
+pub all-rows : {W H R : ℕ} → H ≤ R → (S : ℕ → Rectangle → Type 0) (g : Corner → ℕ → ℕ) (t : Tree) → ListsAt W H R S g t → ListsAt W H H S g t
+all-rows every S g t l c on = l c (on-more-rows every on)
 
 pub agree-back : {W H : ℕ} {g g' : Corner → ℕ → ℕ} → Agree W H g g' → Agree W H g' g
 agree-back e = record { at = λ c on j h. sym (e .at c on j h) }

@@ -27,7 +27,8 @@ use Rattle.rules.proofs.Nodes.{lawful-tree, part-node, last-node}
 use Rattle.rules.proofs.Suiting.{design-decides}
 use Rattle.rules.proofs.Listing.{same-shape, same-list, list-bytes, list-unique}
 use Rattle.rules.proofs.Pairing.{pairings-bytes}
-use Rattle.rules.proofs.Agreeing.{Agree, agree-back, chosen-agree, paired-agree, down-agree}
+use Rattle.rules.proofs.Limits.{every-row}
+use Rattle.rules.proofs.Agreeing.{Agree, all-rows, agree-back, chosen-agree, paired-agree, down-agree}
 use Rattle.rules.proofs.Descending.{down-laid}
 use Rattle.rules.proofs.Choosing.{chooses-none, chooses-this}
 use Rattle.rules.proofs.Floorplans.{goes-down, no-placement, corner-zero, suited-decides}
@@ -90,7 +91,7 @@ module _ (d : Design) where
   computed-own t h c on = list-bytes (design-decides d) (nodeAt d t) c
 
   -- whatever slots are the tree's lists agree with the computed ones
-  lists-agree : (t : Tree) (g : Corner → ℕ → ℕ) → ListsAt (widthOf d) (heightOf d) (SuitsOf d) g t → Agree (widthOf d) (heightOf d) (treeList d t) g
+  lists-agree : (t : Tree) (g : Corner → ℕ → ℕ) → ListsAt (widthOf d) (heightOf d) (heightOf d) (SuitsOf d) g t → Agree (widthOf d) (heightOf d) (treeList d t) g
   unfolding treeList leafTest
   lists-agree t g l = record { at = λ c on. list-unique (widthOf d) (treeList d t c) (g c) (list-bytes (design-decides d) t c) (l c on) }
 
@@ -124,10 +125,12 @@ module _ (d : Design) where
   plans-row s rs (lawful, w, h, m, e) slots own =
       let n = simp test-iffs at m in
       let W = widthOf d in let H = heightOf d in
+      let node-agrees : (t : ℕ) → t < nodes d → Agree W H (computed d t) (slots t) =
+      λ t b. lists-agree (nodeAt d t) (slots t) (all-rows (every-row d) (SuitsOf d) (slots t) (nodeAt d t) (own t b)) in
       let agree : (u : Tree) → Part u (root d) → Agree W H (computed d (position u)) (slots (position u)) =
-      λ u q. let (b, i) = part-node d lawful u q in lists-agree (nodeAt d (position u)) (slots (position u)) (own (position u) b) in
+      λ u q. let (b, i) = part-node d lawful u q in node-agrees (position u) b in
       let root-agree : (j : ℕ) → j < W → rootSlot d (computed d) j ≡ rootSlot d slots j = λ j k.
-      lists-agree (nodeAt d (nodes d - 1)) (slots (nodes d - 1)) (own (nodes d - 1) (last-node d lawful)) .at (corner 0 0) (corner-zero d lawful) j k in
+      node-agrees (nodes d - 1) (last-node d lawful) .at (corner 0 0) (corner-zero d lawful) j k in
       let ch = chosen-agree W (rootSlot d (computed d)) (rootSlot d slots) root-agree s (chooses-this W (rootSlot d (computed d)) s (n .0) w h) in (
         ch,
         goes-down d lawful slots own s (ch .stored),

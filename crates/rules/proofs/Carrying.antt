@@ -14,10 +14,10 @@ use Rattle.rules.specs.declared.Edit.{Edit}
 use Rattle.rules.specs.Chip.{corner}
 use Rattle.rules.specs.Tree.{Tree, leaf, cut, has}
 use Rattle.rules.specs.Placement.{Placement}
-use Rattle.rules.specs.Slot.{Empty, ListsAt, FullLists}
+use Rattle.rules.specs.Slot.{Empty, ListsAt, FullLists, slot, Stairs}
 use Rattle.rules.specs.Choice.{Chosen, Down, beside}
 use Rattle.rules.specs.Edit.{namesPlace, changed, changedNode, Relists, Relisted, EditedLists}
-use Rattle.rules.specs.Design.{Sized, nodes, nodeAt, root, SuitsOf, LawfulDesign, SameDesign, slotsOf, AllStairs, OwnLists, rootSlot, GoesDown, widthOf, heightOf}
+use Rattle.rules.specs.Design.{Sized, nodes, nodeAt, root, SuitsOf, LawfulDesign, SameDesign, slotsOf, AllStairs, OwnLists, rootSlot, GoesDown, widthOf, heightOf, slotRows}
 use Rattle.rules.proofs.Searching.{or-iff, eqb-iff}
 use Rattle.rules.proofs.Below.{Below}
 use Rattle.rules.proofs.Standing.{part-has}
@@ -25,14 +25,14 @@ use Rattle.rules.proofs.Nodes.{lawful-tree, node-part}
 use Rattle.rules.proofs.Listing.{same-list}
 use Rattle.rules.proofs.Relisting.{realizes-same}
 use Rattle.rules.proofs.Changing.{edit-lawful, edit-keeps}
-use Rattle.rules.proofs.Same.{same-sym, width-same, height-same, nodes-same, suits-same, node-same, root-same, changed-node-same, changed-same}
+use Rattle.rules.proofs.Same.{same-sym, width-same, height-same, slot-rows-same, nodes-same, suits-same, node-same, root-same, changed-node-same, changed-same}
 
 -- the same suits every module of a tree
 abbrev SuitAlike : (ℕ → Rectangle → Type 0) → (ℕ → Rectangle → Type 0) → Tree → Type 0
 SuitAlike S S' t = (k : ℕ) (r : Rectangle) → So (has t k) → S k r ↔ S' k r
 
-module _ (W H : ℕ) {S S' : ℕ → Rectangle → Type 0} where
-  lists-alike : (slots : Corner → ℕ → ℕ) (t : Tree) → SuitAlike S S' t → ListsAt W H S slots t → ListsAt W H S' slots t
+module _ (W H R : ℕ) {S S' : ℕ → Rectangle → Type 0} where
+  lists-alike : (slots : Corner → ℕ → ℕ) (t : Tree) → SuitAlike S S' t → ListsAt W H R S slots t → ListsAt W H R S' slots t
   lists-alike slots t f l c on =
       same-list W (slots c) (slots c) (λ j h. refl)
       (λ s. (realizes-same W H t (λ k r i. f k r i .0) _, realizes-same W H t (λ k r i. f k r i .1) _)) (l c on)
@@ -50,14 +50,14 @@ module _ (W H : ℕ) {S S' : ℕ → Rectangle → Type 0} where
   )
 
   relists-alike : (work : List ℕ) (t : Tree) → SuitAlike S S' t → (c : Corner) (s : Shape)
-      → Relists W H S work t c s ↔ Relists W H S' work t c s
+      → Relists W H R S work t c s ↔ Relists W H R S' work t c s
   relists-alike work (leaf t k) f c s =
       (realizes-same W H (leaf t k) (λ k r i. f k r i .0) _, realizes-same W H (leaf t k) (λ k r i. f k r i .1) _)
   relists-alike work (cut t d l r) f c s = (λ x. x, λ x. x)
 
   relisted-alike : (node node' : ℕ → Tree) (n at : ℕ) (before after : List ℕ) → Below n node node'
       → ((t : ℕ) → t < n → SuitAlike S S' (node t))
-      → Relisted W H S node n at before after → Relisted W H S' node' n at before after
+      → Relisted W H R S node n at before after → Relisted W H R S' node' n at before after
   relisted-alike node node' n at before after e f x = record {
     way = λ t c h on i.
         let x' = x .way t c h on (rw (e t h) i) in
@@ -68,7 +68,7 @@ module _ (W H : ℕ) {S S' : ℕ → Rectangle → Type 0} where
 
 module _ {d e : Design} (z : SameDesign d e) where
   pub stairs-same : (slots : ℕ → Corner → ℕ → ℕ) → AllStairs d slots → AllStairs e slots
-  stairs-same slots st = rw (width-same z, height-same z, nodes-same z) at st
+  stairs-same slots st = coe 0 1 (i. Stairs (width-same z i) (height-same z i) (slot-rows-same z i) (nodes-same z i) slots) st
 
   module _ (lawful : LawfulDesign d) where
     -- a lawful design's trees have modules below m, and the same suits those
@@ -83,21 +83,20 @@ module _ {d e : Design} (z : SameDesign d e) where
     pub own-same : (slots : ℕ → Corner → ℕ → ℕ) → OwnLists d slots → OwnLists e slots
     own-same slots own =
         let W = widthOf d in let H = heightOf d in
-        let each : FullLists W H (SuitsOf e) (nodeAt e) (nodes d) slots
-        = λ t h. rw (← node-same z t h) (lists-alike W H (slots t) (nodeAt d t) (node-alike t h) (own t h)) in
-        subst₃ (λ w h n. FullLists w h (SuitsOf e) (nodeAt e) n slots)
-        (width-same z) (height-same z) (nodes-same z) each
+        let R = slotRows d in let each : FullLists W H R (SuitsOf e) (nodeAt e) (nodes d) slots
+        = λ t h. rw (← node-same z t h) (lists-alike W H R (slots t) (nodeAt d t) (node-alike t h) (own t h)) in
+        coe 0 1 (i. FullLists (width-same z i) (height-same z i) (slot-rows-same z i) (SuitsOf e) (nodeAt e) (nodes-same z i) slots) each
 
     pub down-same : (slots : ℕ → Corner → ℕ → ℕ) (s : Shape) (p : Placement)
         → GoesDown d slots s p → GoesDown e slots s p
     down-same slots s p x =
         subst₃ (λ W H t. Down W H (SuitsOf e) slots t (corner 0 0) s p) (width-same z) (height-same z) (root-same z)
-        (down-alike (widthOf d) (heightOf d) slots (root d) root-alike (corner 0 0) s p x)
+        (down-alike (widthOf d) (heightOf d) (slotRows d) slots (root d) root-alike (corner 0 0) s p x)
 
 -- the same of the slots in work, and of the root's slot there
 module _ {d e : Design} (z : SameDesign d e) (work : List ℕ) where
   slots-same : slotsOf d work ≡ slotsOf e work
-  slots-same = rw (width-same z, height-same z)
+  slots-same = λ i. slot (width-same z i) (slot-rows-same z i) work
 
   pub work-stairs : AllStairs d (slotsOf d work) → AllStairs e (slotsOf e work)
   work-stairs st = subst (AllStairs e) slots-same (stairs-same z (slotsOf d work) st)
@@ -127,8 +126,7 @@ module _ {d e : Design} (z : SameDesign d e) (lawful : LawfulDesign d) (sized : 
       let y = changed-same z lawful sized sized' c names in let lawful' = edit-lawful d lawful c names in
       let d' = changed d c in let e' = changed e c in let k : nodes d' ≡ nodes d = edit-keeps d c .nodes-same in
       let at = changedNode d c in
-      let relisted = relisted-alike (widthOf d) (heightOf d) (nodeAt d') (nodeAt e') (nodes d) at before after
+      let relisted = relisted-alike (widthOf d) (heightOf d) (slotRows d) (nodeAt d') (nodeAt e') (nodes d) at before after
       (λ t h. node-same y t (rw k h)) (λ t h. node-alike y lawful' t (rw k h)) x in
       rw (← changed-node-same z c)
-      (subst₃ (λ W H n. Relisted W H (SuitsOf e') (nodeAt e') n at before after)
-      (width-same z) (height-same z) (nodes-same z) relisted)
+      (coe 0 1 (i. Relisted (width-same z i) (height-same z i) (slot-rows-same z i) (SuitsOf e') (nodeAt e') (nodes-same z i) at before after) relisted)

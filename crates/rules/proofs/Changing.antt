@@ -17,10 +17,11 @@ use Rattle.rules.specs.declared.Need.{Need}
 use Rattle.rules.specs.declared.Edit.{Edit}
 use Rattle.rules.specs.declared.Edit.the-variants.{Change, Turn}
 use Rattle.rules.specs.Tree.{Tree, leaf, cut, position, has, spans, tokenOf, stands, things, numberOf, isCut, isModule}
-use Rattle.rules.specs.Design.{mostModules, Sized, noNeed, needAt, tokenAt, nodes, lawfulNeed, withinLimits, standingOf, nodeAt, root, LawfulDesign, mostTokens}
+use Rattle.rules.specs.Design.{mostModules, Sized, noNeed, needAt, tokenAt, nodes, lawfulNeed, withinLimits, standingOf, nodeAt, root, LawfulDesign, mostTokens, slotRows, widthOf}
 use Rattle.rules.specs.Edit.{namesPlace, changed, changedNode, other, turned, modulePosition}
 use Rattle.rules.proofs.Searching.{and-iff, eqb-iff, or-iff, any-iff, all-iff, least-found, test-iffs, ltb-iff}
 use Rattle.rules.proofs.Tokens.{cut-undone, cut-iff, module-iff}
+use Rattle.rules.specs.Service.{workOf}
 use Rattle.rules.proofs.Standing.{Reading, none-read, module-read, cut-read, read-stands, last-is, earlier}
 use Rattle.rules.proofs.Nodes.{modules-within, lawful-iff, lawful-tree, module-token, module-only}
 
@@ -137,6 +138,16 @@ edit-keeps d (Turn t) = record { chip = refl; modules = refl; nodes-same = refl 
 cut-named : (d : Design) (t : ℕ) → So (namesPlace d (Turn t)) → (c : Direction) × (tokenAt d t ≡ Cut c)
 unfolding namesPlace
 cut-named d t s = cut-iff (tokenAt d t) .0 (and-iff (ltb t (nodes d)) (isCut (tokenAt d t)) .0 s .1)
+
+-- and the rows that have slots
+pub edit-rows : (d : Design) (e : Edit) → slotRows (changed d e) ≡ slotRows d
+unfolding slotRows
+edit-rows d e = ap (λ C. C .height .0) (edit-keeps d e .chip)
+
+-- so the lists take as many work bytes
+pub edit-work : (d : Design) (e : Edit) → workOf (changed d e) ≡ workOf d
+edit-work d e =
+    let k = edit-keeps d e in let kw : widthOf (changed d e) ≡ widthOf d = ap (λ C. C .width .0) (k .chip) in rw (edit-rows d e, kw, k .nodes-same)
 
 module _ (d : Design) (lawful : LawfulDesign d) where
   -- the least position whose token is module k's is where it stands

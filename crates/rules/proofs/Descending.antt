@@ -133,7 +133,7 @@ module _ {W H : ℕ} {S : ℕ → Rectangle → Type 0} where
 
   -- over a design's own lists going down never fails
   module _ {F : ℕ → Test} (dec : Decides W H S F) (suits : ℕ → Rectangle → Bool) (decides : (k : ℕ) (r : Rectangle) → S k r ↔ So (suits k r)) where
-    pub own-goes-down : (slots : ℕ → Corner → ℕ → ℕ) (t : Tree) → Every (λ u. ListsAt W H S (slots (position u)) u) t
+    pub own-goes-down : (slots : ℕ → Corner → ℕ → ℕ) (t : Tree) → Every (λ u. ListsAt W H H S (slots (position u)) u) t
         → (c : Corner) (s : Shape) → CornerOn W H c → Listed W H S t c s → So (goesDown W H suits slots t c s)
     unfolding goesDown Realizes
     own-goes-down slots (leaf t k) own c s on z = decides k (record { corner = c; shape = s }) .0 (z .is .1)

@@ -15,7 +15,7 @@ use Rattle.rules.specs.Search.{any, all, least, count, total}
 use Rattle.rules.specs.Chip.{corner, column, columnOf, coversBlock, heldBetween, holds}
 use Rattle.rules.specs.Tree.{Tree, leaf, cut, has, stands, joined, added, standing}
 use Rattle.rules.specs.Slot.{slotStart}
-use Rattle.rules.specs.Design.{needAt, nodes, nodeAt, root, valueTest, withinLimits, lawfulChip, inRange, lawfulNeed, rootSlot, widthOf, heightOf}
+use Rattle.rules.specs.Design.{needAt, nodes, nodeAt, root, valueTest, withinLimits, lawfulChip, inRange, lawfulNeed, rootSlot, widthOf, heightOf, slotRows}
 use Rattle.rules.specs.Edit.{changed}
 use Rattle.rules.specs.Bytes.{designAt, checkedAt, numberAt, secondByte, thirdByte, rowAt, needOf, tokensAt, padded}
 use Rattle.rules.proofs.Test.{grid, Test, suitsRoom, parted, fits, lowest, listByte, stored, sideBySide, pairTest, bestWidth, meets, leftIndex, rightIndex, laid, merge}
@@ -59,7 +59,7 @@ Pairs d bytes (cut t k l r) = tab (widthOf d) (pairedList d k l r) ≡ bytes
 unfoldable pub Computes : Example → Type 0
 Computes (lists d c shapes) = (widthsRise (widthOf d) 0 shapes ≡ true) × (tab (widthOf d) (treeList d (root d) c) ≡ tab (widthOf d) (bytesOf shapes))
 Computes (contains d r n) = holds (d .chip) r ≡ n
-Computes (slotIs d start bytes) = (slotStart (widthOf d) (heightOf d) (nodes d - 1) (corner 0 0) ≡ start) × (tab (widthOf d) (treeList d (root d) (corner 0 0)) ≡ bytes)
+Computes (slotIs d start bytes) = (slotStart (widthOf d) (slotRows d) (nodes d - 1) (corner 0 0) ≡ start) × (tab (widthOf d) (treeList d (root d) (corner 0 0)) ≡ bytes)
 Computes (pairsTo d bytes) = (valueTest d ≡ Done) × Pairs d bytes (root d)
 Computes (plansTo d s rs) =
     (valueTest d ≡ Done) × (bestWidth (rootSlot d (computed d)) (widthOf d) ≡ s .w .0) × (rootSlot d (computed d) (s .w .0 - 1) ≡ s .h .0)
@@ -77,7 +77,7 @@ unfolding AllCompute Computes table tab bytesOf widthsRise leafTest treeList pai
     E D four padded changed
     any all least count total column columnOf coversBlock heldBetween holds has stands joined added standing
     valueTest withinLimits lawfulChip inRange lawfulNeed designAt checkedAt numberAt secondByte thirdByte rowAt needOf tokensAt
-    suitsRoom parted fits lowest listByte stored sideBySide pairTest bestWidth meets leftIndex rightIndex laid merge
+    slotRows suitsRoom parted fits lowest listByte stored sideBySide pairTest bestWidth meets leftIndex rightIndex laid merge
 table-computes = (
   (refl, refl),
   (

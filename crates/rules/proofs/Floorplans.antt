@@ -19,7 +19,8 @@ use Rattle.rules.specs.Design.{LawfulDesign, LawfulPlacement, AllStairs,
 use Rattle.rules.specs.Check.{isSuited}
 use Rattle.rules.proofs.Test.{goesDown, laid}
 use Rattle.rules.proofs.Nodes.{lawful-tree, root-position, node-at, by-nodes}
-use Rattle.rules.proofs.Limits.{limits}
+use Rattle.rules.proofs.Limits.{limits, every-row}
+use Rattle.rules.proofs.Agreeing.{on-more-rows, all-rows}
 use Rattle.rules.proofs.Standing.{whole, node-position}
 use Rattle.rules.proofs.Suiting.{design-decides, at-most-iff}
 use Rattle.rules.proofs.Placing.{PlacedIn}
@@ -42,15 +43,15 @@ pub suited-decides : (d : Design) (k : ℕ) (r : Rectangle) → SuitsOf d k r �
 suited-decides d k r = let e = at-most-iff (needAt d k) (holds (d .chip) r) in (e .1, e .0)
 
 module _ (d : Design) (lawful : LawfulDesign d) (slots : ℕ → Corner → ℕ → ℕ) where
-  own-every : OwnLists d slots → Every (λ u. ListsAt (widthOf d) (heightOf d) (SuitsOf d) (slots (position u)) u) (root d)
+  own-every : OwnLists d slots → Every (λ u. ListsAt (widthOf d) (heightOf d) (heightOf d) (SuitsOf d) (slots (position u)) u) (root d)
   own-every own =
-      by-nodes d lawful (λ u. ListsAt (widthOf d) (heightOf d) (SuitsOf d) (slots (position u)) u) .1
-      (λ t h c on. rw (node-position (node-at d lawful t h)) (own t h c on))
+      by-nodes d lawful (λ u. ListsAt (widthOf d) (heightOf d) (heightOf d) (SuitsOf d) (slots (position u)) u) .1
+      (λ t h. rw (node-position (node-at d lawful t h)) (all-rows (every-row d) (SuitsOf d) (slots t) (nodeAt d t) (own t h)))
 
   stairs-every : AllStairs d slots
       → Every (λ u. (c : Corner) → CornerOn (widthOf d) (heightOf d) c → Stair (widthOf d) (heightOf d) c (slots (position u) c)) (root d)
   stairs-every st = by-nodes d lawful (λ u. (c : Corner) → CornerOn (widthOf d) (heightOf d) c → Stair (widthOf d) (heightOf d) c (slots (position u) c)) .1
-      (λ t h c on. rw (node-position (node-at d lawful t h)) (st t c h on))
+      (λ t h c on. rw (node-position (node-at d lawful t h)) (st t c h (on-more-rows (every-row d) on)))
 
   pub own-stairs : OwnLists d slots → AllStairs d slots
   own-stairs own t c h on = list-stair (design-decides d) (nodeAt d t) c (slots t c) (own t h c on)

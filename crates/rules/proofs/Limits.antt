@@ -1,14 +1,24 @@
--- A lawful chip's limits and a lawful design's, one by one: their tests, taken apart. Assumes nothing.
+-- A lawful chip's limits and a lawful design's, one by one: their tests, taken apart; and which rows have slots. Assumes nothing.
 use mathlib.Core.Bool.{So}
 use Prim.Native.Nat.{ℕ, _≤_, _<_}
 use native.Mathlib.Omega.{arith}
+use native.Mathlib.Nat.{le-refl}
 use Rattle.rules.specs.declared.Need.{Need}
 use Rattle.rules.specs.declared.Chip.{Chip}
 use Rattle.rules.specs.declared.Design.{Design}
 use Rattle.rules.specs.Chip.{kindAt}
-use Rattle.rules.specs.Design.{mostColumns, mostRows, lastKind, mostModules, mostNumber, needAt, inRange, lawfulNeed, lawfulChip, withinLimits, LawfulDesign}
+use Rattle.rules.specs.Design.{mostColumns, mostRows, lastKind, mostModules, mostNumber, needAt, inRange, lawfulNeed, lawfulChip, withinLimits, LawfulDesign, heightOf, slotRows}
 use Rattle.rules.proofs.Searching.{test-iffs, all-iff}
 use Rattle.rules.proofs.Nodes.{lawful-iff}
+
+-- every row of the chip has slots, and no other row has
+pub every-row : (d : Design) → heightOf d ≤ slotRows d
+unfolding slotRows
+every-row d = le-refl (heightOf d)
+
+pub no-other-row : (d : Design) → slotRows d ≤ heightOf d
+unfolding slotRows
+no-other-row d = le-refl (heightOf d)
 
 pub record NeedLimits (n : Need) : Type 0 where
   pub clbs : n .clbs ≤ mostNumber

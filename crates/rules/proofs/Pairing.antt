@@ -232,7 +232,7 @@ module _ (W H : ℕ) (k : Direction) (L R : Corner → ℕ → ℕ) (c : Corner)
       (λ z. u .0 (p .0 (m .0 z)), λ z. m .1 (p .1 (u .1 z)))
 
 module _ {W H : ℕ} {S : ℕ → Rectangle → Type 0} {F : ℕ → Test} (dec : Decides W H S F) where
-  pub stored-lists : (g : Corner → ℕ → ℕ) (t : Tree) → ListsAt W H S g t
+  pub stored-lists : (g : Corner → ℕ → ℕ) (t : Tree) → ListsAt W H H S g t
       → Lists (fits F t) (Passes (stored W H (grid g)))
   stored-lists g t l a c b d = (to, back)
     where
@@ -254,8 +254,8 @@ module _ {W H : ℕ} {S : ℕ → Rectangle → Type 0} {F : ℕ → Test} (dec 
           rw (e, e') (stored-iff W H (grid g) a c s .1 (y, omega arith, omega arith))
 
   -- the undominated pairings of the children's lists are the cut's list
-  pub pairings-list-the-cut : (t : ℕ) (k : Direction) (l r : Tree) (L R : Corner → ℕ → ℕ) → ListsAt W H S L l
-      → ListsAt W H S R r
+  pub pairings-list-the-cut : (t : ℕ) (k : Direction) (l r : Tree) (L R : Corner → ℕ → ℕ) → ListsAt W H H S L l
+      → ListsAt W H H S R r
       → (c : Corner) (s : Shape) → Undominated (Paired W H k L R c) s ↔ Listed W H S (cut t k l r) c s
   unfolding fits
   pairings-list-the-cut t k l r L R x y c s =

@@ -5,7 +5,7 @@ use mathlib.Core.Path.{_≡_, refl, sym, ap}
 use mathlib.Core.Logic.{inl, inr, ⊎-elim, _↔_}
 use mathlib.Core.List.{List}
 use mathlib.Core.Bool.{So}
-use Prim.Native.Nat.{ℕ, _<_}
+use Prim.Native.Nat.{ℕ, _≤_, _<_}
 use Rattle.rules.specs.declared.Corner.{Corner}
 use Rattle.rules.specs.declared.Shape.{Shape}
 use Rattle.rules.specs.declared.Rectangle.{Rectangle}
@@ -16,7 +16,7 @@ use Rattle.rules.specs.Tree.{Tree, leaf, cut, has, spans, position}
 use Rattle.rules.specs.Shape.{Realizes, ShapeAt}
 use Rattle.rules.specs.Slot.{slot, CornerOn, IsListOf, FullLists, ListsAt}
 use Rattle.rules.specs.Edit.{namesPlace, changed, changedNode, Relists, Relisted, EditedLists}
-use Rattle.rules.specs.Design.{LawfulDesign, OwnLists, slotsOf, SuitsOf, nodeAt, nodes, root, widthOf, heightOf}
+use Rattle.rules.specs.Design.{LawfulDesign, slotRows, HasSlots, OwnLists, slotsOf, SuitsOf, nodeAt, nodes, root, widthOf, heightOf}
 use Rattle.rules.proofs.Test.{Test}
 use Rattle.rules.proofs.Searching.{know, or-iff, eqb-iff}
 use Rattle.rules.proofs.Standing.{Part, whole, in-left, in-right, node-position}
@@ -25,7 +25,9 @@ use Rattle.rules.proofs.Fitting.{Decides}
 use Rattle.rules.proofs.Suiting.{design-decides}
 use Rattle.rules.proofs.Listing.{same-list}
 use Rattle.rules.proofs.Pairing.{pairings-list-the-cut}
-use Rattle.rules.proofs.Changing.{Alike, alike-off, alike-spans, edit-lawful, edit-nodes, edit-keeps}
+use Rattle.rules.proofs.Changing.{Alike, alike-off, alike-spans, edit-lawful, edit-nodes, edit-keeps, edit-rows}
+use Rattle.rules.proofs.Limits.{every-row}
+use Rattle.rules.proofs.Agreeing.{all-rows}
 
 -- a tree's shapes hang on what suits its own modules
 pub realizes-same : (W H : ℕ) {S S' : ℕ → Rectangle → Type 0} (t : Tree) → ((k : ℕ) (r : Rectangle) → So (has t k) → S k r → S' k r)
@@ -52,29 +54,29 @@ part-right whole = in-right whole
 part-right (in-left q) = in-left (part-right q)
 part-right (in-right q) = in-right (part-right q)
 
-module _ {W H : ℕ} (S : ℕ → Rectangle → Type 0) {S' : ℕ → Rectangle → Type 0} {F : ℕ → Test} (dec : Decides W H S' F)
+module _ {W H R : ℕ} (every : H ≤ R) (S : ℕ → Rectangle → Type 0) {S' : ℕ → Rectangle → Type 0} {F : ℕ → Test} (dec : Decides W H S' F)
     (node node' : ℕ → Tree) (n p : ℕ) (tree : Tree)
     (parts : (u : Tree) → Part u tree → (position u < n) × (u ≡ node' (position u)))
     (off : (t : ℕ) → t < n → (So (spans (node' t) p) → ⊥) → (c : Corner) (s : Shape) → ShapeAt W H S (node t) c s ↔ ShapeAt W H S' (node' t) c s)
-    (work work' : List ℕ) (own : FullLists W H S node n (slot W H work)) (rel : Relisted W H S' node' n p work work') where
+    (work work' : List ℕ) (own : FullLists W H R S node n (slot W R work)) (rel : Relisted W H R S' node' n p work work') where
   -- the slots of a part off the way are its lists still
-  kept-lists : (u : Tree) → Part u tree → (So (spans u p) → ⊥) → ListsAt W H S' (slot W H work' (position u)) u
+  kept-lists : (u : Tree) → Part u tree → (So (spans u p) → ⊥) → ListsAt W H R S' (slot W R work' (position u)) u
   kept-lists u q o c on =
       let (h, e) = parts u q in let o' : So (spans (node' (position u)) p) → ⊥ = rw e at o in
-      rw (← e) at (same-list W _ (slot W H work' (position u) c) (λ j k. sym (rel .off (position u) c h on o' j k)) (off (position u) h o' c) (own (position u) h c on))
+      rw (← e) at (same-list W _ (slot W R work' (position u) c) (λ j k. sym (rel .off (position u) c h on o' j k)) (off (position u) h o' c) (own (position u) h c on))
 
   -- the slots of a part on the way are the list of what it is relisted from
-  made-lists : (u : Tree) → Part u tree → So (spans u p) → (c : Corner) → CornerOn W H c → IsListOf W (slot W H work' (position u) c) (Relists W H S' work' u c)
+  made-lists : (u : Tree) → Part u tree → So (spans u p) → (c : Corner) → CornerOn W R c → IsListOf W (slot W R work' (position u) c) (Relists W H R S' work' u c)
   made-lists u q i c on = let (h, e) = parts u q in rw (← e) at (rel .way (position u) c h on (rw e at i))
 
   -- every part's slots are its lists, child before parent
-  relisted-lists : (u : Tree) → Part u tree → ListsAt W H S' (slot W H work' (position u)) u
+  relisted-lists : (u : Tree) → Part u tree → ListsAt W H R S' (slot W R work' (position u)) u
   relisted-lists (leaf t k) q = ⊎-elim (made-lists (leaf t k) q) (kept-lists (leaf t k) q) (know (spans (leaf t k) p))
   relisted-lists (cut t d l r) q =
-      let x = relisted-lists l (part-left q) in let y = relisted-lists r (part-right q) in
+      let x = all-rows every S' _ l (relisted-lists l (part-left q)) in let y = all-rows every S' _ r (relisted-lists r (part-right q)) in
       ⊎-elim
       (λ i c on s. let m = made-lists (cut t d l r) q i c on s in
-      let u = pairings-list-the-cut dec t d l r (slot W H work' (position l)) (slot W H work' (position r)) x y c s in (λ z. u .0 (m .0 z), λ z. m .1 (u .1 z)))
+      let u = pairings-list-the-cut dec t d l r (slot W R work' (position l)) (slot W R work' (position r)) x y c s in (λ z. u .0 (m .0 z), λ z. m .1 (u .1 z)))
       (kept-lists (cut t d l r) q) (know (spans (cut t d l r) p))
 
 -- off the way the two designs' shapes are the same
@@ -92,26 +94,30 @@ pub relisted-own : (d : Design) (e : Edit) → LawfulDesign d → So (namesPlace
 unfolding changed
 relisted-own d e lawful names work work' own rel =
     let d' = changed d e in let p = changedNode d e in let lawful' = edit-lawful d lawful e names in let k = edit-keeps d e in
-    let kw : widthOf d' ≡ widthOf d = ap (λ C. C .width .0) (k .chip) in let kh : heightOf d' ≡ heightOf d = ap (λ C. C .height .0) (k .chip) in
-    let lists = relisted-lists (SuitsOf d) (rw (kw, kh) at (design-decides d')) (nodeAt d) (nodeAt d') (nodes d) p (root d')
+    let kw : widthOf d' ≡ widthOf d = ap (λ C. C .width .0) (k .chip) in let kh : heightOf d' ≡ heightOf d = ap (λ C. C .height .0) (k .chip) in let kr : slotRows d' ≡ slotRows d = edit-rows d e in
+    let lists = relisted-lists (every-row d) (SuitsOf d) (rw (kw, kh) at (design-decides d')) (nodeAt d) (nodeAt d') (nodes d) p (root d')
     (λ u q. let (h, r) = part-node d' lawful' u q in (rw (k .nodes-same) at h, r))
     (λ t h o. off-same d d' p (nodeAt d t) (nodeAt d' t) (k .chip) (edit-nodes d lawful e names t h) o) work work' own rel in
-    rw (kw, kh) (λ t h c on. rw (node-position (node-at d' lawful' t h)) at (lists (nodeAt d' t) (node-part d' lawful' t h) c on))
+    rw (kw, kh, kr) (λ t h c on. rw (node-position (node-at d' lawful' t h)) at (lists (nodeAt d' t) (node-part d' lawful' t h) c on))
 
 -- where every node is listed from what it is relisted from, the bytes are the design's own lists
 pub relists-own : (d : Design) → LawfulDesign d → (work : List ℕ)
-    → ((t : ℕ) → t < nodes d → (c : Corner) → CornerOn (widthOf d) (heightOf d) c
-    → IsListOf (widthOf d) (slotsOf d work t c) (Relists (widthOf d) (heightOf d) (SuitsOf d) work (nodeAt d t) c))
+    → ((t : ℕ) → t < nodes d → (c : Corner) → HasSlots d c
+    → IsListOf (widthOf d) (slotsOf d work t c) (Relists (widthOf d) (heightOf d) (slotRows d) (SuitsOf d) work (nodeAt d t) c))
     → OwnLists d (slotsOf d work)
 relists-own d lawful work made t h c on = rw (node-position (node-at d lawful t h)) at (go (nodeAt d t) (node-part d lawful t h) c on)
   where
-    at : (u : Tree) → Part u (root d) → (c : Corner) → CornerOn (widthOf d) (heightOf d) c
-        → IsListOf (widthOf d) (slotsOf d work (position u) c) (Relists (widthOf d) (heightOf d) (SuitsOf d) work u c)
+    at : (u : Tree) → Part u (root d) → (c : Corner) → HasSlots d c
+        → IsListOf (widthOf d) (slotsOf d work (position u) c) (Relists (widthOf d) (heightOf d) (slotRows d) (SuitsOf d) work u c)
     at u q c on = let (b, e) = part-node d lawful u q in rw (← e) at (made (position u) b c on)
 
-    go : (u : Tree) → Part u (root d) → ListsAt (widthOf d) (heightOf d) (SuitsOf d) (slotsOf d work (position u)) u
+    on-chip : (u : Tree) → ListsAt (widthOf d) (heightOf d) (slotRows d) (SuitsOf d) (slotsOf d work (position u)) u
+        → ListsAt (widthOf d) (heightOf d) (heightOf d) (SuitsOf d) (slotsOf d work (position u)) u
+    on-chip u = all-rows (every-row d) (SuitsOf d) (slotsOf d work (position u)) u
+
+    go : (u : Tree) → Part u (root d) → ListsAt (widthOf d) (heightOf d) (slotRows d) (SuitsOf d) (slotsOf d work (position u)) u
     go (leaf t k) q = at (leaf t k) q
-    go (cut t e l r) q = let x = go l (part-left q) in let y = go r (part-right q) in λ c on s.
+    go (cut t e l r) q = let x = on-chip l (go l (part-left q)) in let y = on-chip r (go r (part-right q)) in λ c on s.
         let m = at (cut t e l r) q c on s in
         let p = pairings-list-the-cut (design-decides d) t e l r (slotsOf d work (position l)) (slotsOf d work (position r)) x y c s in
         (λ z. p .0 (m .0 z), λ z. m .1 (p .1 z))

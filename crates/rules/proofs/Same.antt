@@ -1,7 +1,7 @@
 -- "Places beyond W, m and 2m-1 in it are ignored, also when two designs are called the same": what the rules say of a
 -- design they say of every design called the same, since each sum, test and tree looks only below those bounds. And
 -- lawful designs are called the same exactly if their bytes are, since read back they give the design. Assumes nothing.
-use mathlib.Core.Path.{_≡_, refl, sym, _∙_, ap}
+use mathlib.Core.Path.{subst₃, _≡_, refl, sym, _∙_, ap}
 use mathlib.Core.Logic.{_↔_}
 use mathlib.Core.Bool.{Bool, true, false, not, _&&_, So}
 use mathlib.Core.List.{List}
@@ -20,7 +20,8 @@ use Rattle.rules.specs.declared.Reply.the-variants.{Done, Refused}
 use Rattle.rules.specs.Chip.{kindAt, column, columnOf, holds, SameChip}
 use Rattle.rules.specs.Tree.{numberOf, isCut, isModule, tokenOf, last}
 use Rattle.rules.specs.Placement.{Placement}
-use Rattle.rules.specs.Design.{Sized, mostModules, noNeed, lawfulKind, needAt, tokenAt, nodes, lawfulNeed, lawfulChip, withinLimits, SuitsOf, standingOf, nodeAt, root, treeTest, valueTest, LawfulDesign, SameDesign, widthOf, heightOf}
+use Rattle.rules.specs.Slot.{workNeeded}
+use Rattle.rules.specs.Design.{Sized, mostModules, noNeed, lawfulKind, needAt, tokenAt, nodes, lawfulNeed, lawfulChip, withinLimits, SuitsOf, standingOf, nodeAt, root, treeTest, valueTest, LawfulDesign, SameDesign, widthOf, heightOf, slotRows}
 use Rattle.rules.specs.Edit.{turned, namesPlace, changed, changedNode}
 use Rattle.rules.specs.Bytes.{numberBytes, needBytes, designBytes, designAt}
 use Rattle.rules.specs.Check.{fromRows, keptAt, isOn, isSuited, judgedCuts, judgedRows, afterTests, verdict}
@@ -115,11 +116,15 @@ module _ {d e : Design} (z : SameDesign d e) where
   block-same : d .chip .block .0 ≡ e .chip .block .0
   block-same = ap (λ b. b .0) (z .chip .block)
 
+  pub slot-rows-same : slotRows d ≡ slotRows e
+  unfolding slotRows
+  slot-rows-same = height-same
+
   pub nodes-same : nodes d ≡ nodes e
   nodes-same = rw (z .modules)
 
   pub work-same : workOf d ≡ workOf e
-  work-same = rw (width-same, height-same, z .modules)
+  work-same = subst₃ (λ W R n. workOf d ≡ workNeeded W R n) width-same slot-rows-same nodes-same refl
 
   pub rows-same : rowsOf d ≡ rowsOf e
   rows-same = rw (z .modules)

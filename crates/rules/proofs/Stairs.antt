@@ -46,14 +46,14 @@ module _ (W H : ℕ) (c : Corner) (g : ℕ → ℕ) where
   unfolding isStair
   stair-iff = (λ t. steps-stair (simp (all-iff, and-iff, or-iff, leb-iff) at t), λ s. simp (all-iff, and-iff, or-iff, leb-iff) (stair-steps s))
 
-pub stairs-iff : (W H n : ℕ) (slots : ℕ → Corner → ℕ → ℕ) → So (areStairs W H n slots) ↔ Stairs W H n slots
+pub stairs-iff : (W H R n : ℕ) (slots : ℕ → Corner → ℕ → ℕ) → So (areStairs W H R n slots) ↔ Stairs W H R n slots
 unfolding areStairs
-stairs-iff W H n slots = (
+stairs-iff W H R n slots = (
   λ t k c h on. simp (all-iff, stair-iff) at t k h (c .y .0) (on .row) (c .x .0) (on .column),
   λ f. simp (all-iff, stair-iff) (λ t h y k x l. f t (corner x y) h (record { column = l; row = k })),
 )
 
 -- all slots are stairs, or not
-pub stairs-or-not : (W H n : ℕ) (slots : ℕ → Corner → ℕ → ℕ) → Stairs W H n slots ⊎ (Stairs W H n slots → ⊥)
-stairs-or-not W H n slots =
-    let e = stairs-iff W H n slots in ⊎-elim (λ t. inl (e .0 t)) (λ f. inr (λ s. f (e .1 s))) (know (areStairs W H n slots))
+pub stairs-or-not : (W H R n : ℕ) (slots : ℕ → Corner → ℕ → ℕ) → Stairs W H R n slots ⊎ (Stairs W H R n slots → ⊥)
+stairs-or-not W H R n slots =
+    let e = stairs-iff W H R n slots in ⊎-elim (λ t. inl (e .0 t)) (λ f. inr (λ s. f (e .1 s))) (know (areStairs W H R n slots))

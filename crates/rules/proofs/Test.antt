@@ -149,5 +149,5 @@ isStair W H c g =
     all W (λ j. leb (g j) (H - c .y .0) && (leb (suc j) (W - c .x .0) || eqb (g j) 0)
     && all j (λ i. eqb (g i) 0 || (eqb (g j) 0 || ltb (g j) (g i))))
 
-unfoldable pub areStairs : ℕ → ℕ → ℕ → (ℕ → Corner → ℕ → ℕ) → Bool
-areStairs W H n slots = all n (λ t. all H (λ y. all W (λ x. isStair W H (corner x y) (slots t (corner x y)))))
+unfoldable pub areStairs : ℕ → ℕ → ℕ → ℕ → (ℕ → Corner → ℕ → ℕ) → Bool
+areStairs W H R n slots = all n (λ t. all R (λ y. all W (λ x. isStair W H (corner x y) (slots t (corner x y)))))

@@ -19,7 +19,7 @@ use Rattle.rules.specs.Search.{all}
 use Rattle.rules.specs.Chip.{corner, kindAt, Suits, SameChip}
 use Rattle.rules.specs.Tree.{Tree, Standing, refused, things, tokenOf, standing, last}
 use Rattle.rules.specs.Placement.{Placement, Lawful}
-use Rattle.rules.specs.Slot.{slot, Stairs, FullLists}
+use Rattle.rules.specs.Slot.{slot, CornerOn, Stairs, FullLists}
 use Rattle.rules.specs.Choice.{Down}
 
 -- "Limits: W 1..64, H 1..64, B 1..H, kinds 0..2, modules m 1..16, each of a need's three numbers 0..65,535, not all three
@@ -124,15 +124,23 @@ root d = last (standingOf d (nodes d))
 abbrev pub LawfulPlacement : Design → Placement → Type 0
 LawfulPlacement d p = Lawful (widthOf d) (heightOf d) (SuitsOf d) (root d) p
 
--- the slots of a design's nodes in work bytes; slots that are all stairs; slots that are the design's full lists
+-- how many rows have slots: all of the chip's. It is said here alone.
+unfoldable pub slotRows : Design → ℕ
+slotRows d = heightOf d
+
+-- the corners that have slots; the slots of a design's nodes in work bytes; slots that are all stairs; slots that are the design's
+-- full lists
+abbrev pub HasSlots : Design → Corner → Type 0
+HasSlots d c = CornerOn (widthOf d) (slotRows d) c
+
 abbrev pub slotsOf : Design → List ℕ → ℕ → Corner → ℕ → ℕ
-slotsOf d work = slot (widthOf d) (heightOf d) work
+slotsOf d work = slot (widthOf d) (slotRows d) work
 
 abbrev pub AllStairs : Design → (ℕ → Corner → ℕ → ℕ) → Type 0
-AllStairs d slots = Stairs (widthOf d) (heightOf d) (nodes d) slots
+AllStairs d slots = Stairs (widthOf d) (heightOf d) (slotRows d) (nodes d) slots
 
 abbrev pub OwnLists : Design → (ℕ → Corner → ℕ → ℕ) → Type 0
-OwnLists d slots = FullLists (widthOf d) (heightOf d) (SuitsOf d) (nodeAt d) (nodes d) slots
+OwnLists d slots = FullLists (widthOf d) (heightOf d) (slotRows d) (SuitsOf d) (nodeAt d) (nodes d) slots
 
 -- going down from a shape of the root at (0, 0)
 abbrev pub rootSlot : Design → (ℕ → Corner → ℕ → ℕ) → ℕ → ℕ

@@ -23,7 +23,7 @@ use Rattle.rules.specs.declared.Planned.the-variants as planned
 use Rattle.rules.specs.Placement.{Placement}
 use Rattle.rules.specs.Slot.{workNeeded, PastKept, Empty}
 use Rattle.rules.specs.Choice.{Chosen, rowsOut}
-use Rattle.rules.specs.Design.{Sized, nodes, valueTest, LawfulDesign, slotsOf, AllStairs, OwnLists, rootSlot, GoesDown, widthOf, heightOf}
+use Rattle.rules.specs.Design.{Sized, nodes, valueTest, LawfulDesign, slotsOf, AllStairs, OwnLists, rootSlot, GoesDown, widthOf, slotRows}
 use Rattle.rules.specs.Edit.{namesPlace, changed, EditedLists}
 use Rattle.rules.specs.Bytes.{Took, took, refuse, designBytes, designAt, chipFrom, designFrom}
 use Rattle.rules.specs.Check.{verdict}
@@ -49,7 +49,7 @@ pub record Writes (d : Design) (before : List ℕ) (r : Written) (after : List �
 
 -- the work bytes that a design's lists take, and its rows
 abbrev pub workOf : Design → ℕ
-workOf d = workNeeded (widthOf d) (heightOf d) (nodes d)
+workOf d = workNeeded (widthOf d) (slotRows d) (nodes d)
 
 abbrev pub rowsOf : Design → ℕ
 rowsOf d = 4 * d .modules

@@ -10,19 +10,22 @@ use Rattle.rules.specs.declared.Rectangle.{Rectangle}
 use Rattle.rules.specs.Tree.{Tree}
 use Rattle.rules.specs.Shape.{ShapeAt, Undominated}
 
+-- Slots stand for the corners of the lowest R rows: of a design all H of them (`slotRows` in Design.antt). R is counted apart from H,
+-- which bounds what a shape may reach.
+
 -- "Node t at corner (x, y) has a slot of W bytes starting at ((t·H + y)·W + x)·W."
 abbrev pub slotStart : ℕ → ℕ → ℕ → Corner → ℕ
-slotStart W H t c = ((t * H + c .y .0) * W + c .x .0) * W
+slotStart W R t c = ((t * R + c .y .0) * W + c .x .0) * W
 
 -- "Work needs (2m-1)·H·W·W bytes": for n nodes
 abbrev pub workNeeded : ℕ → ℕ → ℕ → ℕ
-workNeeded W H n = n * H * W * W
+workNeeded W R n = n * R * W * W
 
 -- byte j of the slot of node t at a corner
 unfoldable pub slot : ℕ → ℕ → List ℕ → ℕ → Corner → ℕ → ℕ
-slot W H work t c j = getD work (slotStart W H t c + j) 0
+slot W R work t c j = getD work (slotStart W R t c + j) 0
 
--- a corner on the chip
+-- a corner in the first so many columns and rows: on the chip, or among those that have slots
 pub record CornerOn (W H : ℕ) (c : Corner) : Type 0 where
   pub column : c .x .0 < W
   pub row : c .y .0 < H
@@ -42,12 +45,12 @@ Empty W bytes = (s : Shape) → Stores W bytes s → ⊥
 abbrev pub IsListOf : ℕ → (ℕ → ℕ) → (Shape → Type 0) → Type 0
 IsListOf W bytes P = (s : Shape) → Stores W bytes s ↔ Undominated P s
 
--- the slots of a tree are its lists, at every corner of the chip; the full lists of the nodes below n
-abbrev pub ListsAt : ℕ → ℕ → (ℕ → Rectangle → Type 0) → (Corner → ℕ → ℕ) → Tree → Type 0
-ListsAt W H Suits slots t = (c : Corner) → CornerOn W H c → IsListOf W (slots c) (ShapeAt W H Suits t c)
+-- the slots of a tree are its lists, at every corner that has slots; the full lists of the nodes below n
+abbrev pub ListsAt : ℕ → ℕ → ℕ → (ℕ → Rectangle → Type 0) → (Corner → ℕ → ℕ) → Tree → Type 0
+ListsAt W H R Suits slots t = (c : Corner) → CornerOn W R c → IsListOf W (slots c) (ShapeAt W H Suits t c)
 
-abbrev pub FullLists : ℕ → ℕ → (ℕ → Rectangle → Type 0) → (ℕ → Tree) → ℕ → (ℕ → Corner → ℕ → ℕ) → Type 0
-FullLists W H Suits node n slots = (t : ℕ) → t < n → ListsAt W H Suits (slots t) (node t)
+abbrev pub FullLists : ℕ → ℕ → ℕ → (ℕ → Rectangle → Type 0) → (ℕ → Tree) → ℕ → (ℕ → Corner → ℕ → ℕ) → Type 0
+FullLists W H R Suits node n slots = (t : ℕ) → t < n → ListsAt W H R Suits (slots t) (node t)
 
 -- "bytes after them are never touched"
 pub record PastKept (size : ℕ) (before after : List ℕ) : Type 0 where
@@ -61,5 +64,5 @@ pub record Stair (W H : ℕ) (c : Corner) (bytes : ℕ → ℕ) : Type 0 where
   pub columns : (j : ℕ) → j < W → W - c .x .0 < suc j → bytes j ≡ 0
 
 -- every slot of every node is a stair
-abbrev pub Stairs : ℕ → ℕ → ℕ → (ℕ → Corner → ℕ → ℕ) → Type 0
-Stairs W H n slots = (t : ℕ) (c : Corner) → t < n → CornerOn W H c → Stair W H c (slots t c)
+abbrev pub Stairs : ℕ → ℕ → ℕ → ℕ → (ℕ → Corner → ℕ → ℕ) → Type 0
+Stairs W H R n slots = (t : ℕ) (c : Corner) → t < n → CornerOn W R c → Stair W H c (slots t c)

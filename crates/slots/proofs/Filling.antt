@@ -69,7 +69,7 @@ pub filled-out : {v w : List ℕ} {a n : ℕ} {f : ℕ → ℕ} → Filled w a n
 filled-out {v} {w} {a} {n} {f} e i h = ap (λ x. getD x i 0) (e .is) ∙ over-out w a n f i h
 
 -- a whole slot filled is the slot written
-pub slot-filled : (W H t : ℕ) (c : Corner) (f : ℕ → ℕ) (before after : List ℕ) → slotStart W H t c + W ≤ length before
-    → Filled before (slotStart W H t c) W f after → SlotIs W H t c f before after
+pub slot-filled : (W R t : ℕ) (c : Corner) (f : ℕ → ℕ) (before after : List ℕ) → slotStart W R t c + W ≤ length before
+    → Filled before (slotStart W R t c) W f after → SlotIs W R t c f before after
 unfolding slot
-slot-filled W H t c f before after l e = record { long = same-length e; inside = filled-at e l; outside = filled-out e }
+slot-filled W R t c f before after l e = record { long = same-length e; inside = filled-at e l; outside = filled-out e }

@@ -1,3 +1,4 @@
--- Laws of written bytes.
+-- Laws of written bytes, and of the bytes lent for slots.
 pub mod Filling
 pub mod Writing
+pub mod Lending

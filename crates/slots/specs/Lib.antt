@@ -1,3 +1,4 @@
--- The chip's size, and how a slot, and all slots of a node, are written.
+-- The chip's size, how a slot, and all slots of a node, are written, and the bytes lent for them.
 pub mod Size
 pub mod Written
+pub mod Lent

@@ -4,30 +4,35 @@ use rules::Corner;
 use rules::Design;
 use rules::Rows;
 ghost use mathlib.Core.Path.{_≡_};
-ghost use Prim.Native.Nat.{_≤_, _<_};
-ghost use Rattle.rules.specs.Slot.{slotStart, CornerOn};
+ghost use Prim.Native.Nat.{_+_, _≤_};
 ghost use Rattle.slots.specs.Size.{boardOf};
+ghost use Rattle.slots.specs.Lent.{Addressed, startOn, mostWork};
 
-// The chip's size, which says where slots stand.
+// The chip's size, and how many of its rows are listed and so have slots.
 pub struct Board {
     pub width: Columns,
     pub height: Rows,
+    pub listed: Rows,
 }
 
-// The size of a design's chip.
+// The size of a design's chip, all rows of which have slots.
 pub fn board_of(design: Design) -> Board
     ensures { λ r. ⌜ r ≡ boardOf design ⌝ }
 {
     let width = design.chip.width;
     let height = design.chip.height;
-    Board { width, height }
+    Board {
+        width,
+        height,
+        listed: height,
+    }
 }
 
 // Where the slot of node t at a corner starts.
 pub fn slot_start(board: Board, t: usize, at: Corner) -> usize
-    requires { ⌜ (board .width .0 ≤ 128) × (board .height .0 ≤ 128) × (t < 128) × CornerOn (board .width .0) (board .height .0) at ⌝ }
-    ensures { λ r. ⌜ (r ≡ slotStart (board .width .0) (board .height .0) t at) × (r < 268435456) ⌝ }
+    requires { ⌜ Addressed board t at ⌝ }
+    ensures { λ r. ⌜ (r ≡ startOn board t at) × (r + board .width .0 ≤ mostWork) ⌝ }
 {
     let width = board.width.0;
-    ((t * board.height.0 + at.y.0) * width + at.x.0) * width
+    ((t * board.listed.0 + at.y.0) * width + at.x.0) * width
 }

@@ -1,3 +1,2 @@
 -- Laws of the stair test.
 pub mod Walking
-pub mod Reaching

@@ -17,7 +17,8 @@ use Rattle.rules.specs.Slot.{Stair}
 use Rattle.rules.proofs.Test.{isStair}
 use Rattle.rules.proofs.Searching.{absurd-so, all-iff, eqb-iff, same-test}
 use Rattle.rules.proofs.Stairs.{stair-iff}
-use Rattle.stairs.specs.Walk.{bytesFrom, zeroAt, nextLow, lowAfter}
+use Rattle.slots.specs.Lent.{bytesFrom}
+use Rattle.stairs.specs.Walk.{zeroAt, nextLow, lowAfter}
 
 -- what a byte does
 next-zero : (low v : ℕ) (on : Bool) → v ≡ 0 → nextLow low v on ≡ low

@@ -1,27 +1,16 @@
 -- The stair test as the code goes: byte by byte along a slot, then slot by slot. proofs/Walking shows that it decides 01's rule.
 use mathlib.Core.Bool.{Bool, true, false}
 use mathlib.Core.List.{List}
-use Prim.Native.Nat.{ℕ, zero, suc, _+_, _≤_, _<_}
+use Prim.Native.Nat.{ℕ, zero, suc}
 use lib.Dec.{ltb, eqb}
-use lib.ListN.{length, getD}
 use Rattle.rules.specs.declared.Corner.{Corner}
 use Rattle.rules.specs.Search.{all}
 use Rattle.rules.specs.Chip.{corner}
-use Rattle.rules.specs.Slot.{workNeeded}
-use Rattle.rules.specs.Design.{mostColumns, mostRows}
-use Rattle.rules.proofs.Test.{isStair}
+use Rattle.rules.proofs.Test.{isStair, areStairs}
+use Rattle.slots.specs.declared.Board.{Board}
+use Rattle.slots.specs.Lent.{bytesFrom}
 
--- a chip within the limits, and bytes enough for n nodes
-pub record Room (W H n : ℕ) (work : List ℕ) : Type 0 where
-  pub columns : W ≤ mostColumns
-  pub rows : H ≤ mostRows
-  pub few : n < 128
-  pub bytes : workNeeded W H n ≤ length work
-
--- the bytes from a place on
-abbrev pub bytesFrom : List ℕ → ℕ → ℕ → ℕ
-bytesFrom work from j = getD work (from + j) 0
-
+-- a byte from a place on is zero
 abbrev pub zeroAt : List ℕ → ℕ → ℕ → Bool
 zeroAt work from j = eqb (bytesFrom work from j) 0
 
@@ -36,12 +25,15 @@ unfoldable pub lowAfter : ℕ → (ℕ → ℕ) → ℕ → ℕ → ℕ → ℕ
 lowAfter columns bytes j zero low = low
 lowAfter columns bytes j (suc n) low = lowAfter columns bytes (suc j) n (nextLow low (bytes j) (ltb j columns))
 
--- the slot at column x of row y, the slots of row y, and all slots of node t, are stairs
-abbrev pub slotStair : ℕ → ℕ → (Corner → ℕ → ℕ) → ℕ → ℕ → Bool
-slotStair W H slots y x = isStair W H (corner x y) (slots (corner x y))
+-- on a board the slot at column x of row y, the slots of row y, all slots of node t, and those of the first n nodes, are stairs
+abbrev pub slotStair : Board → (Corner → ℕ → ℕ) → ℕ → ℕ → Bool
+slotStair b slots y x = isStair (b .width .0) (b .height .0) (corner x y) (slots (corner x y))
 
-abbrev pub rowStairs : ℕ → ℕ → (Corner → ℕ → ℕ) → ℕ → Bool
-rowStairs W H slots y = all W (slotStair W H slots y)
+abbrev pub rowStairs : Board → (Corner → ℕ → ℕ) → ℕ → Bool
+rowStairs b slots y = all (b .width .0) (slotStair b slots y)
 
-abbrev pub nodeStairs : ℕ → ℕ → (ℕ → Corner → ℕ → ℕ) → ℕ → Bool
-nodeStairs W H slots t = all H (rowStairs W H (slots t))
+abbrev pub nodeStairs : Board → (ℕ → Corner → ℕ → ℕ) → ℕ → Bool
+nodeStairs b slots t = all (b .listed .0) (rowStairs b (slots t))
+
+abbrev pub stairsOn : Board → ℕ → (ℕ → Corner → ℕ → ℕ) → Bool
+stairsOn b n slots = areStairs (b .width .0) (b .height .0) (b .listed .0) n slots

@@ -7,10 +7,10 @@ ghost use mathlib.Core.Path.{_≡_};
 ghost use Prim.Native.Nat.{suc, _+_, _-_, _≤_, _<_, min};
 ghost use lib.ListN.{length};
 ghost use Rattle.rules.specs.Search.{all};
-ghost use Rattle.rules.specs.Slot.{slot, CornerOn};
 ghost use Rattle.rules.specs.Design.{mostRows};
-ghost use Rattle.rules.proofs.Test.{isStair, areStairs};
-ghost use Rattle.stairs.specs.Walk.{Room, bytesFrom, zeroAt, lowAfter, rowStairs, nodeStairs};
+ghost use Rattle.rules.proofs.Test.{isStair};
+ghost use Rattle.slots.specs.Lent.{OnBoard, slotsOn, bytesFrom, Lent};
+ghost use Rattle.stairs.specs.Walk.{zeroAt, lowAfter, rowStairs, nodeStairs, stairsOn};
 
 // The eight bytes from a place on are all zero.
 fn all_zero(work: &[u8], from: usize) -> bool
@@ -54,7 +54,7 @@ fn walk(work: &[u8], from: usize, columns: usize, start: usize, end: usize, firs
 
 // The slot that starts at a place is a stair for this corner. Most bytes of a slot are zero: they are passed eight at a time.
 fn is_stair(work: &[u8], from: usize, board: Board, at: Corner) -> bool
-    requires { ⌜ (from + board .width .0 ≤ length (now work)) × CornerOn (board .width .0) (board .height .0) at × (board .height .0 ≤ mostRows) ⌝ }
+    requires { ⌜ (from + board .width .0 ≤ length (now work)) × OnBoard board at × (board .height .0 ≤ mostRows) ⌝ }
     ensures { λ r. ⌜ r ≡ isStair (board .width .0) (board .height .0) at (bytesFrom (now (work .entry)) from) ⌝ }
 {
     let width = board.width.0;
@@ -78,8 +78,8 @@ fn is_stair(work: &[u8], from: usize, board: Board, at: Corner) -> bool
 
 // The slots of node t in row y are stairs.
 fn row_stairs(work: &[u8], board: Board, t: usize, y: Rows) -> bool
-    requires { ⌜ Room (board .width .0) (board .height .0) (suc t) (now work) × (y .0 < board .height .0) ⌝ }
-    ensures { λ r. ⌜ r ≡ rowStairs (board .width .0) (board .height .0) (slot (board .width .0) (board .height .0) (now (work .entry)) t) (y .0) ⌝ }
+    requires { ⌜ Lent board (suc t) (now work) × (y .0 < board .listed .0) ⌝ }
+    ensures { λ r. ⌜ r ≡ rowStairs board (slotsOn board (now (work .entry)) t) (y .0) ⌝ }
 {
     let width = board.width.0;
     for x in 0..width {
@@ -93,11 +93,11 @@ fn row_stairs(work: &[u8], board: Board, t: usize, y: Rows) -> bool
 
 // All slots of node t are stairs.
 fn node_stairs(work: &[u8], board: Board, t: usize) -> bool
-    requires { ⌜ Room (board .width .0) (board .height .0) (suc t) (now work) ⌝ }
-    ensures { λ r. ⌜ r ≡ nodeStairs (board .width .0) (board .height .0) (slot (board .width .0) (board .height .0) (now (work .entry))) t ⌝ }
+    requires { ⌜ Lent board (suc t) (now work) ⌝ }
+    ensures { λ r. ⌜ r ≡ nodeStairs board (slotsOn board (now (work .entry))) t ⌝ }
 {
-    let height = board.height.0;
-    for y in 0..height {
+    let rows = board.listed.0;
+    for y in 0..rows {
         if !row_stairs(work, board, t, Rows(y)) {
             return false;
         }
@@ -107,8 +107,8 @@ fn node_stairs(work: &[u8], board: Board, t: usize) -> bool
 
 // All slots of the first nodes are stairs.
 pub fn all_stairs(work: &[u8], board: Board, nodes: usize) -> bool
-    requires { ⌜ Room (board .width .0) (board .height .0) nodes (now work) ⌝ }
-    ensures { λ r. ⌜ r ≡ areStairs (board .width .0) (board .height .0) nodes (slot (board .width .0) (board .height .0) (now (work .entry))) ⌝ }
+    requires { ⌜ Lent board nodes (now work) ⌝ }
+    ensures { λ r. ⌜ r ≡ stairsOn board nodes (slotsOn board (now (work .entry))) ⌝ }
 {
     for t in 0..nodes {
         if !node_stairs(work, board, t) {

@@ -3,7 +3,7 @@ use mathlib.Core.Path.{sym, _∙_}
 use native.Mathlib.Omega.{arith}
 use borrow.Author.Needs.{needs}
 use Rattle.rules.specs.Design.{Sized, LawfulDesign}
-use Rattle.cellweaver.proofs.Needed.{few}
+use Rattle.rules.proofs.Limits.{limits}
 use Rattle.cellweaver.proofs.Answers.{check-refuses, check-short, check-judged}
 use Rattle.cellweaver.proofs.check.Statement.{statement}
 use Rattle.cellweaver.proofs.check.Tie as tie
@@ -28,7 +28,7 @@ has-places : (c : tie.After-enum-told) → Sized (c .before .before .before .bef
 has-places c = c .before .before .value-test .ensures .sized
 
 mul-if1 : tie.Need-mul-if1
-mul-if1 c = let f = few _ (is-lawful (c .before)) in omega arith
+mul-if1 c = let l = limits _ (is-lawful (c .before)) in omega arith
 
 returns-2 : tie.Need-returns-2
 returns-2 c = check-short _ (has-places (c .before .before)) _ (is-lawful (c .before .before)) (c .if1 .taken)

@@ -2,7 +2,8 @@
 use mathlib.Core.Path.{_≡_}
 use Prim.Native.Nat.{_-_, _≤_}
 use native.Mathlib.Omega.{arith}
-use Rattle.choosing.specs.Choose.{Storable, bytesFrom, chosenShape}
+use Rattle.slots.specs.Lent.{bytesFrom}
+use Rattle.choosing.specs.Choose.{Storable, chosenShape}
 use Rattle.choosing.proofs.Best.{first-best, next-best, better-either}
 use Rattle.choosing.proofs.best_in.Statement.{statement}
 use Rattle.choosing.proofs.best_in.Tie as tie

@@ -1,4 +1,4 @@
--- Each return is one case of the definition; an area is at most 64 times 255. Assumes nothing.
+-- Each return is one case of the definition; an area is at most 255 times the most columns. Assumes nothing.
 use Prim.Native.Nat.{_*_, _≤_}
 use native.Mathlib.Omega.{arith}
 use native.Mathlib.Nat.{mul-le-mul}

@@ -4,9 +4,9 @@ use Prim.Native.Nat.{_-_}
 use native.Mathlib.Omega.{arith}
 use lib.ListN.{getD}
 use borrow.Author.Needs.{needs}
-use Rattle.choosing.specs.Choose.{slotsIn}
+use Rattle.slots.specs.Lent.{slotsOn}
+use Rattle.slots.proofs.Lending.{fewer-lent}
 use Rattle.choosing.specs.Descend.{nowhere}
-use Rattle.choosing.proofs.Best.{ready-for}
 use Rattle.choosing.proofs.Pairs.{taken-near}
 use Rattle.choosing.proofs.Steps.{cut-stops, cut-without, cut-with}
 use Rattle.choosing.proofs.down_cut.Statement.{statement}
@@ -19,7 +19,7 @@ stopped-requires : tie.Need-stopped-requires
 stopped-requires c κs = search needs
 
 returns : tie.Need-returns
-returns c = let a = c .before .before .before .args in cut-stops (a .board) (slotsIn (a .board) (a .work .now)) (a .direction) (a .left) (a .t) (a .t6) (c .before .if1 .taken) (c .stopped .ensures)
+returns c = let a = c .before .before .before .args in cut-stops (a .board) (slotsOn (a .board) (a .work .now)) (a .direction) (a .left) (a .t) (a .t6) (c .before .if1 .taken) (c .stopped .ensures)
 
 mul-room : tie.Need-mul-room
 mul-room c = search needs
@@ -33,7 +33,7 @@ sub-find-pair c = search needs
 find-pair-requires : tie.Need-find-pair-requires
 find-pair-requires c κs =
     let p = c .before .before .before .before .pre in let a = c .before .before .before .before .args in
-    (ready-for (p .0) (a .left) (omega arith), ready-for (p .0) (a .t - 1) (omega arith), p .1 .on (a .t))
+    (fewer-lent (p .0) _ (omega arith), fewer-lent (p .0) _ (omega arith), p .1 .on (a .t))
 
 enum-known-pair : tie.Need-enum-known-pair
 enum-known-pair c = search needs
@@ -41,7 +41,7 @@ enum-known-pair c = search needs
 beside-of-requires : tie.Need-beside-of-requires
 beside-of-requires c κs =
     let f = c .before .before .before in let z = f .before .before .before .before .before in let a = z .args in let r = getD (a .t6 .rooms) (a .t) nowhere in
-    taken-near (slotsIn (a .board) (a .work .now)) (a .direction) (a .left) (a .t - 1) (r .corner) (r .shape) (z .pre .0) (f .find-pair .ensures) (c .before .pair .given .1)
+    taken-near (slotsOn (a .board) (a .work .now)) (a .direction) (a .left) (a .t - 1) (r .corner) (r .shape) (z .pre .0) (f .find-pair .ensures) (c .before .pair .given .1)
 
 sub-given : tie.Need-sub-given
 sub-given c = search needs
@@ -58,13 +58,13 @@ stopped-requires-2 c κs = search needs
 returns-2 : tie.Need-returns-2
 returns-2 c =
     let p = c .before .before .before in let f = p .before .before in let i = f .before .before .before in let a = i .before .before .args in
-    cut-with (a .board) (slotsIn (a .board) (a .work .now)) (a .direction) (a .left) (a .t) (a .t6) (i .if1 .left) (f .find-pair .ensures) (p .pair .given .1)
+    cut-with (a .board) (slotsOn (a .board) (a .work .now)) (a .direction) (a .left) (a .t) (a .t6) (i .if1 .left) (f .find-pair .ensures) (p .pair .given .1)
     (c .before .beside-of .ensures) (c .given .ensures)
 
 returns-3 : tie.Need-returns-3
 returns-3 c =
     let f = c .before .before .before in let i = f .before .before .before in let a = i .before .before .args in
-    cut-without (a .board) (slotsIn (a .board) (a .work .now)) (a .direction) (a .left) (a .t) (a .t6) (i .if1 .left) (f .find-pair .ensures)
+    cut-without (a .board) (slotsOn (a .board) (a .work .now)) (a .direction) (a .left) (a .t) (a .t6) (i .if1 .left) (f .find-pair .ensures)
     (c .before .enum-told .given .1) (c .stopped2 .ensures)
 
 pub down-cut-spec : {M : Type 1} → statement M

@@ -21,7 +21,7 @@ enum-known-token-2 c = search needs
 down-leaf-requires : tie.Need-down-leaf-requires
 down-leaf-requires c κs =
     let k = c .before in let f = k .before .before in
-    (module-below _ (f .before .before .args .v) (sym (f .token-of .ensures) ∙ k .token2 .given .1), omega (arith, f .before .before .pre .0 .nodes))
+    (module-below _ (f .before .before .args .v) (sym (f .token-of .ensures) ∙ k .token2 .given .1), omega (arith, f .before .before .pre .0 .few))
 
 enum-told : tie.Need-enum-told
 enum-told c = search needs

@@ -3,28 +3,29 @@ use mathlib.Core.Path.{_≡_, _∙_}
 use Prim.Native.Nat.{_-_, _≤_}
 use native.Mathlib.Omega.{arith}
 use borrow.Author.Needs.{needs}
-use Rattle.choosing.specs.Choose.{slotsIn, firstPair, pairFrom}
-use Rattle.choosing.proofs.Best.{slot-room}
+use Rattle.slots.specs.Lent.{slotsOn}
+use Rattle.slots.proofs.Lending.{last-addressed, last-lent}
+use Rattle.choosing.specs.Choose.{firstPair, pairFrom}
 use Rattle.choosing.proofs.Pairs.{first-none, next-pair, from-byte, pair-is}
 use Rattle.choosing.proofs.find_pair.Statement.{statement}
 use Rattle.choosing.proofs.find_pair.Tie as tie
 
 abbrev Inv-loop : tie.InvT-loop
 Inv-loop work board direction left right at whole from pair₀ end i₀ pair i =
-    (i ≤ end) × (pair ≡ firstPair (pairFrom (board .width .0) (board .height .0) direction (slotsIn board work left) (slotsIn board work right) at whole) i)
+    (i ≤ end) × (pair ≡ firstPair (pairFrom (board .width .0) (board .height .0) direction (slotsOn board work left) (slotsOn board work right) at whole) i)
 
 abbrev μ-loop : tie.MeasureT-loop
 μ-loop work board direction left right at whole from pair₀ end i₀ pair i = end - i
 
 slot-start-requires : tie.Need-slot-start-requires Inv-loop μ-loop
-slot-start-requires c κs = let p = c .before .pre in (omega arith, omega arith, omega arith, p .2)
+slot-start-requires c κs = let p = c .before .pre in last-addressed (p .0) (p .2)
 
 loop-holds : tie.Need-loop-holds Inv-loop μ-loop
 loop-holds c = (omega arith, first-none _)
 
 shape-at-requires : tie.Need-shape-at-requires Inv-loop μ-loop
 shape-at-requires c κs =
-    let s = c .before .before in let p = s .before .before .pre in let r = slot-room (p .0) (p .2) (s .slot-start .ensures .0) in
+    let s = c .before .before in let p = s .before .before .pre in let r = last-lent (p .0) (p .2) in let e = s .slot-start .ensures .0 in
     (omega arith, omega arith)
 
 pair-with-requires : tie.Need-pair-with-requires Inv-loop μ-loop
@@ -42,7 +43,7 @@ loop-less c = omega arith
 loop-again : tie.Need-loop-again Inv-loop μ-loop
 loop-again c =
     let p = c .before in let s = p .before in let l = s .before .before in let a = l .before .before .before .args in
-    let q = from-byte _ _ (a .left) (a .work .now) (a .direction) (slotsIn (a .board) (a .work .now) (a .right)) (a .at) (a .whole) (l .loop .i)
+    let q = from-byte (a .board) (a .left) (a .work .now) (a .direction) (slotsOn (a .board) (a .work .now) (a .right)) (a .at) (a .whole) (l .loop .i)
     (l .before .slot-start .ensures .0) (s .shape-at .ensures .0) (p .pair-with .ensures) in
     (omega arith, next-pair _ _ (l .loop .inv .1) q (c .first-of .ensures))
 

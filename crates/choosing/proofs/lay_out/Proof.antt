@@ -1,10 +1,10 @@
 -- The invariant: going down the nodes that are left ends where going down all of them does. For a lawful design that is going down its
 -- tree. Assumes nothing.
 use mathlib.Core.Path.{refl}
-use Prim.Native.Nat.{_-_, _≤_}
+use Prim.Native.Nat.{_≤_}
 use native.Mathlib.Omega.{arith}
-use Rattle.choosing.specs.Choose.{slotsIn}
-use Rattle.choosing.proofs.Best.{ready-for}
+use Rattle.slots.specs.Lent.{slotsOn}
+use Rattle.slots.proofs.Lending.{fewer-lent}
 use Rattle.choosing.proofs.Steps.{first-settled}
 use Rattle.choosing.proofs.Layouts.{Remains, one-down, all-down}
 use Rattle.choosing.proofs.lay_out.Statement.{statement}
@@ -12,28 +12,28 @@ use Rattle.choosing.proofs.lay_out.Tie as tie
 
 abbrev Inv-loop : tie.InvT-loop
 Inv-loop board nodes work tokens lefts descent₀ t₀ descent t =
-    (t ≤ nodes) × Remains board (slotsIn board work) tokens lefts nodes descent₀ t descent
+    (t ≤ nodes) × Remains board (slotsOn board work) tokens lefts nodes descent₀ t descent
 
 abbrev μ-loop : tie.MeasureT-loop
 μ-loop board nodes work tokens lefts descent₀ t₀ descent t = t
 
 first-descent-requires : tie.Need-first-descent-requires Inv-loop μ-loop
-first-descent-requires c κs = c .before .pre .nodes
+first-descent-requires c κs = (c .before .pre .1, c .before .pre .0 .few)
 
 loop-holds : tie.Need-loop-holds Inv-loop μ-loop
-loop-holds c = (omega arith, record { settled = rw (c .first-descent .ensures) (first-settled _ _ (c .before .before .pre)); same = refl })
+loop-holds c = (omega arith, record { settled = rw (c .first-descent .ensures) (first-settled _ _ (c .before .before .pre .0)); same = refl })
 
 sub-t : tie.Need-sub-t Inv-loop μ-loop
 sub-t c = omega arith
 
 array-read-down-node : tie.Need-array-read-down-node Inv-loop μ-loop
-array-read-down-node c = omega (arith, c .before .before .before .before .pre .nodes)
+array-read-down-node c = omega (arith, c .before .before .before .before .pre .0 .few)
 
 array-read-down-node-2 : tie.Need-array-read-down-node-2 Inv-loop μ-loop
-array-read-down-node-2 c = omega (arith, c .before .before .before .before .pre .nodes)
+array-read-down-node-2 c = omega (arith, c .before .before .before .before .pre .0 .few)
 
 down-node-requires : tie.Need-down-node-requires Inv-loop μ-loop
-down-node-requires c κs = let l = c .before .loop in (ready-for (c .before .before .before .before .pre) (l .t - 1) (omega arith), l .inv .1 .settled)
+down-node-requires c κs = let l = c .before .loop in (fewer-lent (c .before .before .before .before .pre .0) _ (omega arith), l .inv .1 .settled)
 
 loop-less : tie.Need-loop-less Inv-loop μ-loop
 loop-less c = omega arith

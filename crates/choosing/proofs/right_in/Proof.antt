@@ -3,7 +3,8 @@ use mathlib.Core.Path.{_≡_, _∙_}
 use Prim.Native.Nat.{_-_, _≤_}
 use native.Mathlib.Omega.{arith}
 use borrow.Author.Needs.{needs}
-use Rattle.choosing.specs.Choose.{bytesFrom, firstPair, pairAt}
+use Rattle.slots.specs.Lent.{bytesFrom}
+use Rattle.choosing.specs.Choose.{firstPair, pairAt}
 use Rattle.choosing.proofs.Pairs.{first-none, next-pair}
 use Rattle.choosing.proofs.right_in.Statement.{statement}
 use Rattle.choosing.proofs.right_in.Tie as tie

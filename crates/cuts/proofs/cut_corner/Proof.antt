@@ -1,8 +1,9 @@
 -- `cuts::cut_corner` meets its contract: the top sides start with none, all left shapes are paired, and what is kept of
 -- them is the slot. Assumes nothing.
 use native.Mathlib.Omega.{arith}
-use Rattle.cuts.specs.Cut.{slotsOn, heldTop}
-use Rattle.cuts.proofs.Filling.{slot-fits, roomy-child}
+use Rattle.slots.specs.Lent.{slotsOn}
+use Rattle.slots.proofs.Lending.{fewer-lent, last-addressed, last-lent}
+use Rattle.cuts.specs.Cut.{heldTop}
 use Rattle.cuts.proofs.Cutting.{fresh-tops, tops-above, corner-cut}
 use borrow.Author.Needs.{needs}
 use Rattle.cuts.proofs.cut_corner.Statement.{statement}
@@ -17,18 +18,18 @@ cast-none c = search needs
 pair-corner-requires : tie.Need-pair-corner-requires
 pair-corner-requires c κs =
     let s = c .before .before .before .before in let a = s .args in let p = s .pre .0 in
-    (record { room = roomy-child (a .left) (p .room) (s .pre .1); corner = p .corner; tails = p .tails }, fresh-tops (a .at .x .0) (a .board .height .0))
+    (record { lent = fewer-lent (p .lent) _ (omega (arith, s .pre .1)); corner = p .corner; tails = p .tails }, fresh-tops (a .at .x .0) (a .board .height .0))
 
 slot-start-requires : tie.Need-slot-start-requires
-slot-start-requires c κs = search needs
+slot-start-requires c κs = let p = c .before .before .before .before .before .pre in last-addressed (p .0 .lent) (p .0 .corner)
 
 keep-slot-requires : tie.Need-keep-slot-requires
 keep-slot-requires c κs =
     let s = c .before .before .before .before .before .before .before .before in let a = s .args in let p = s .pre .0 in
     record {
-      bytes = omega (arith, slot-fits (p .room) (p .corner), c .before .before .slot-start .ensures .0);
-      sides = omega (arith, p .room .columns, p .corner .column);
-      row = omega (arith, p .room .rows, p .corner .row);
+      bytes = omega (arith, last-lent (p .lent) (p .corner), c .before .before .slot-start .ensures .0);
+      sides = omega (arith, p .lent .columns, p .corner .column);
+      row = omega (arith, p .lent .rows, p .corner .row);
       above =
           tops-above (a .direction) (a .board) (heldTop (a .line .now)) (a .at) (slotsOn (a .board) (a .work .now) (a .left) (a .at)) (p .corner) (c .before .before .before .pair-corner .ensures);
     }
@@ -41,7 +42,7 @@ returns c =
     let k = c .before .before .before .before .before in let s = k .before .before .before .before .before .before in
     let a = s .args in let p = s .pre .0 in
     corner-cut (a .direction) (a .board) (heldTop (a .line .now)) (a .at) (slotsOn (a .board) (a .work .now) (a .left) (a .at)) (p .corner) (k .before .pair-corner .ensures)
-    (a .t) (p .room) (k .slot-start .ensures .0) (c .before .before .keep-slot .ensures)
+    (a .t) (p .lent) (k .slot-start .ensures .0) (c .before .before .keep-slot .ensures)
 
 pub cut-corner-spec : {M : Type 1} → statement M
 cut-corner-spec =

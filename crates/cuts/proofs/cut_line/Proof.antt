@@ -3,9 +3,10 @@
 use Prim.Native.Nat.{_≤_, _-_}
 use mathlib.Core.Path.{_≡_}
 use native.Mathlib.Omega.{arith}
-use Rattle.slots.specs.Written.{PartIs}
-use Rattle.cuts.specs.Cut.{pairedOn, OnBoard, places, onLine}
-use Rattle.cuts.proofs.Filling.{roomy-child, roomy-same, corner-on}
+use Rattle.cuts.specs.Cut.{pairedSlot, places, onLine}
+use Rattle.cuts.proofs.Filling.{corner-on}
+use Rattle.slots.specs.Lent.{OnBoard, PartOn}
+use Rattle.slots.proofs.Lending.{fewer-lent, lent-same, on-listed}
 use Rattle.cuts.proofs.Nodes.{node-kept, slot-laid, no-place, place-done}
 use borrow.Author.Needs.{needs}
 use Rattle.cuts.proofs.cut_line.Statement.{statement}
@@ -14,7 +15,7 @@ use Rattle.cuts.proofs.cut_line.Tie as tie
 abbrev Inv-loop : tie.InvT-loop
 Inv-loop work₀ board direction t left right on line p₀ p-end work p =
     (p ≤ p-end) × (p-end ≡ places direction board)
-    × PartIs (board .width .0) (board .height .0) t (pairedOn direction board work₀ left right) (onLine direction (on .0) p) work₀ work
+    × PartOn board t (pairedSlot direction board work₀ left right) (onLine direction (on .0) p) work₀ work
 
 abbrev μ-loop : tie.MeasureT-loop
 μ-loop work₀ board direction t left right on line p₀ p-end work p = p-end - p
@@ -35,14 +36,14 @@ here c =
 fill-line-requires : tie.Need-fill-line-requires Inv-loop μ-loop
 fill-line-requires c κs =
     let p = c .before .before .before .pre in
-    (roomy-child _ (p .0 .room) (omega (arith, p .0 .first, p .0 .second)), p .1)
+    (fewer-lent (p .0 .lent) _ (omega (arith, p .0 .first, p .0 .second)), p .1)
 
 places-requires : tie.Need-places-requires Inv-loop μ-loop
 places-requires c κs = search needs
 
 loop-holds : tie.Need-loop-holds Inv-loop μ-loop
 loop-holds c = let a = entry (c .before) .args in
-    (search needs, c .places .ensures, no-place (a .direction) _ _ (a .t) (a .on .0) (pairedOn (a .direction) (a .board) (a .work .now) (a .left) (a .right)) (a .work .now))
+    (search needs, c .places .ensures, no-place (a .direction) _ _ (a .t) (a .on .0) (pairedSlot (a .direction) (a .board) (a .work .now) (a .left) (a .right)) (a .work .now))
 
 corner-at-requires : tie.Need-corner-at-requires Inv-loop μ-loop
 corner-at-requires c κs = search needs
@@ -50,7 +51,7 @@ corner-at-requires c κs = search needs
 cut-corner-requires : tie.Need-cut-corner-requires Inv-loop μ-loop
 cut-corner-requires c κs =
     let l = c .before .before .before .before in let f = filled l in let p = entry f .pre .0 in
-    (record { room = roomy-same (p .room) (l .loop .inv .2 .long); corner = here (c .before .before); tails = f .fill-line .ensures .tails }, p .first)
+    (record { lent = lent-same (p .lent) (l .loop .inv .2 .long); corner = here (c .before .before); tails = f .fill-line .ensures .tails }, p .first)
 
 add-p : tie.Need-add-p Inv-loop μ-loop
 add-p c = search needs
@@ -65,8 +66,8 @@ loop-again c =
     let a = entry f .args in let e = k .corner-at .ensures in let o = here k in (
       omega arith,
       l .inv .1,
-      place-done (a .direction) _ _ (a .t) (a .on .0) (pairedOn (a .direction) (a .board) (a .work .now) (a .left) (a .right)) (l .p) e o (l .inv .2)
-          (slot-laid (a .direction) (a .board) (a .t) (a .left) (a .right) (a .on .0) (l .p) (a .work .now) (l .work) (f .fill-line .ensures) e o
+      place-done (a .direction) _ _ (a .t) (a .on .0) (pairedSlot (a .direction) (a .board) (a .work .now) (a .left) (a .right)) (l .p) e (on-listed (entry f .pre .0 .lent) o) (l .inv .2)
+          (slot-laid (a .direction) (a .board) (a .t) (a .left) (a .right) (a .on .0) (l .p) (a .work .now) (l .work) (f .fill-line .ensures) e o (on-listed (entry f .pre .0 .lent) o)
           (node-kept (l .inv .2) (a .left) (λ q. omega (arith, entry f .pre .0 .first))) (c .before .before .cut-corner .ensures)),
     )
 

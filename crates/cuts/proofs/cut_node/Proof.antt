@@ -3,9 +3,9 @@
 use Prim.Native.Nat.{_≤_, _-_}
 use mathlib.Core.Path.{_≡_}
 use native.Mathlib.Omega.{arith}
-use Rattle.slots.specs.Written.{PartIs}
-use Rattle.cuts.specs.Cut.{pairedOn, TailsNone, lines, beforeLine}
-use Rattle.cuts.proofs.Filling.{roomy-same}
+use Rattle.cuts.specs.Cut.{pairedSlot, TailsNone, lines, beforeLine}
+use Rattle.slots.specs.Lent.{PartOn}
+use Rattle.slots.proofs.Lending.{lent-same}
 use Rattle.cuts.proofs.Cutting.{fresh-line}
 use Rattle.cuts.proofs.Nodes.{no-line, line-done, lines-done}
 use borrow.Author.Needs.{needs}
@@ -15,7 +15,7 @@ use Rattle.cuts.proofs.cut_node.Tie as tie
 abbrev Inv-loop : tie.InvT-loop
 Inv-loop work₀ board direction t left right none line₀ n₀ n-end work line n =
     (n ≤ n-end) × (n-end ≡ lines direction board) × TailsNone board line
-    × PartIs (board .width .0) (board .height .0) t (pairedOn direction board work₀ left right) (beforeLine direction n) work₀ work
+    × PartOn board t (pairedSlot direction board work₀ left right) (beforeLine direction n) work₀ work
 
 abbrev μ-loop : tie.MeasureT-loop
 μ-loop work₀ board direction t left right none line₀ n₀ n-end work line n = n-end - n
@@ -36,12 +36,12 @@ lines-requires c κs = search needs
 loop-holds : tie.Need-loop-holds Inv-loop μ-loop
 loop-holds c =
     let a = c .before .before .before .args in
-    (search needs, c .lines .ensures, fresh-line (a .board), no-line (a .direction) _ _ (a .t) (a .left) (a .right) (a .work .now))
+    (search needs, c .lines .ensures, fresh-line (a .board), no-line (a .direction) (a .board) (a .t) (a .left) (a .right) (a .work .now) (c .before .before .before .pre .lent .chip))
 
 cut-line-requires : tie.Need-cut-line-requires Inv-loop μ-loop
 cut-line-requires c κs =
     let k = c .before .before .before in let p = entry k .pre in let l = k .loop in
-    (record { room = roomy-same (p .room) (l .inv .3 .long); first = p .first; second = p .second }, record { on = omega (arith, l .inv .1); tails = l .inv .2 })
+    (record { lent = lent-same (p .lent) (l .inv .3 .long); first = p .first; second = p .second }, record { on = omega (arith, l .inv .1); tails = l .inv .2 })
 
 add-n : tie.Need-add-n Inv-loop μ-loop
 add-n c = search needs
@@ -54,7 +54,7 @@ loop-again c =
     let k = c .before .before .before .before .before .before in let a = entry k .args in let p = entry k .pre in
     let l = k .loop in
     let e = c .before .before .cut-line .ensures in
-    (omega arith, l .inv .1, e .1, line-done (a .direction) _ _ (a .t) (a .left) (a .right) (a .work .now) (l .n) (p .first) (p .second) (l .inv .3) (e .0))
+    (omega arith, l .inv .1, e .1, line-done (a .direction) (a .board) (a .t) (a .left) (a .right) (a .work .now) (p .lent .chip) (l .n) (p .lent .every) (p .first) (p .second) (l .inv .3) (e .0))
 
 same-length : tie.Need-same-length Inv-loop μ-loop
 same-length c = c .before .loop .inv .3 .long
@@ -63,7 +63,7 @@ returns : tie.Need-returns Inv-loop μ-loop
 returns c =
     let a = entry (c .before) .args in let l = c .before .loop in
     let e : l .n ≡ lines (a .direction) (a .board) = omega (arith, l .inv .1, c .loop-test .left) in
-    lines-done (a .direction) _ _ (a .t) (a .left) (a .right) (a .work .now) (rw e at (l .inv .3))
+    lines-done (a .direction) (a .board) (a .t) (a .left) (a .right) (a .work .now) (entry (c .before) .pre .lent .chip) (rw e at (l .inv .3))
 
 pub cut-node-spec : {M : Type 1} → statement M
 cut-node-spec =

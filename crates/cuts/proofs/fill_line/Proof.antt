@@ -2,7 +2,8 @@
 use Prim.Native.Nat.{_≤_, _<_, _-_}
 use mathlib.Core.Path.{_≡_}
 use native.Mathlib.Omega.{arith}
-use Rattle.cuts.specs.Cut.{mostPlaces, slotsOn, OnBoard, places, LineFilled}
+use Rattle.cuts.specs.Cut.{mostPlaces, places, LineFilled}
+use Rattle.slots.specs.Lent.{OnBoard, slotsOn}
 use Rattle.cuts.proofs.Filling.{corner-on, few-places, line-none, line-next}
 use borrow.Author.Needs.{needs}
 use Rattle.cuts.proofs.fill_line.Statement.{statement}

@@ -6,7 +6,8 @@ use native.Mathlib.Omega.{arith}
 use native.Mathlib.Numerals.{add-one}
 use Rattle.slots.specs.Written.{Filled}
 use Rattle.slots.proofs.Filling.{none-filled, one-filled}
-use Rattle.cuts.specs.Cut.{leastOf, slotTop, bytesFrom}
+use Rattle.slots.specs.Lent.{bytesFrom}
+use Rattle.cuts.specs.Cut.{leastOf, slotTop}
 use Rattle.cuts.proofs.Filling.{least-next}
 use borrow.Author.Needs.{needs}
 use Rattle.cuts.proofs.fill_slot.Statement.{statement}

@@ -3,9 +3,9 @@
 use Prim.Native.Nat.{_≤_, _-_}
 use mathlib.Core.Path.{_≡_, refl}
 use native.Mathlib.Omega.{arith}
-use Rattle.rules.specs.Slot.{slotStart}
-use Rattle.cuts.specs.Cut.{slotsOn, heldTop, leastTop, TopsAre}
-use Rattle.cuts.proofs.Filling.{slot-fits}
+use Rattle.slots.specs.Lent.{startOn, slotsOn}
+use Rattle.slots.proofs.Lending.{last-addressed, last-lent}
+use Rattle.cuts.specs.Cut.{heldTop, leastTop, TopsAre}
 use Rattle.cuts.proofs.Laying.{shapes-none, shapes-next, can-pair}
 use borrow.Author.Needs.{needs}
 use Rattle.cuts.proofs.pair_corner.Statement.{statement}
@@ -13,14 +13,14 @@ use Rattle.cuts.proofs.pair_corner.Tie as tie
 
 abbrev Inv-loop : tie.InvT-loop
 Inv-loop work board direction left at line tops₀ from n i₀ tops i =
-    (i ≤ n) × (n ≡ board .width .0 - at .x .0) × (from ≡ slotStart (board .width .0) (board .height .0) left at)
+    (i ≤ n) × (n ≡ board .width .0 - at .x .0) × (from ≡ startOn board left at)
     × TopsAre (at .x .0) (leastTop direction board (heldTop line) at (slotsOn board work left at) i) tops
 
 abbrev μ-loop : tie.MeasureT-loop
 μ-loop work board direction left at line tops₀ from n i₀ tops i = n - i
 
 slot-start-requires : tie.Need-slot-start-requires Inv-loop μ-loop
-slot-start-requires c κs = search needs
+slot-start-requires c κs = let p = c .before .pre in last-addressed (p .0 .lent) (p .0 .corner)
 
 sub-n : tie.Need-sub-n Inv-loop μ-loop
 sub-n c = search needs
@@ -35,14 +35,14 @@ add-height c = search needs
 shared-slice-read-height : tie.Need-shared-slice-read-height Inv-loop μ-loop
 shared-slice-read-height c =
     let p = c .before .before .before .before .before .before .before .pre in let l = c .before .before .loop in
-    omega (arith, slot-fits (p .0 .room) (p .0 .corner), l .inv .1, l .inv .2)
+    omega (arith, last-lent (p .0 .lent) (p .0 .corner), l .inv .1, l .inv .2)
 
 pair-shape-requires : tie.Need-pair-shape-requires Inv-loop μ-loop
 pair-shape-requires c κs =
     let a = c .before .before .before .before .before .before .before .before .args in
     let p = c .before .before .before .before .before .before .before .before .pre in
     let l = c .before .before .before .loop in
-    (can-pair (a .direction) (a .board) (a .work .now) (a .line .now) (a .left) (a .at) (l .i) (p .0 .room) (p .0 .corner) (p .0 .tails) (l .inv .3), omega (arith, l .inv .1))
+    (can-pair (a .direction) (a .board) (a .work .now) (a .line .now) (a .left) (a .at) (l .i) (p .0 .lent) (p .0 .corner) (p .0 .tails) (l .inv .3), omega (arith, l .inv .1))
 
 add-i : tie.Need-add-i Inv-loop μ-loop
 add-i c = search needs

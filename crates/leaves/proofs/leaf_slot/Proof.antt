@@ -8,30 +8,30 @@ use borrow.Author.Needs.{needs}
 use Rattle.rules.proofs.Limits.{chip-limits}
 use Rattle.slots.specs.Written.{Filled}
 use Rattle.slots.proofs.Filling.{none-filled, one-filled, same-length as same-long}
-use Rattle.leaves.proofs.Trying.{heightBefore, listedAt, can-try, slot-listed}
+use Rattle.leaves.proofs.Trying.{heightBefore, listedAt, slot-listed}
 use Rattle.leaves.proofs.leaf_slot.Statement.{statement}
 use Rattle.leaves.proofs.leaf_slot.Tie as tie
 
 abbrev Inv-loop : tie.InvT-loop
-Inv-loop work₀ t heights start before₀ j₀ j-end work before j =
+Inv-loop work₀ kinds t heights start before₀ j₀ j-end work before j =
     (j ≤ j-end) × (before ≡ heightBefore heights j) × Filled work₀ start j (listedAt heights) work
 
 abbrev μ-loop : tie.MeasureT-loop
-μ-loop work₀ t heights start before₀ j₀ j-end work before j = j-end - j
+μ-loop work₀ kinds t heights start before₀ j₀ j-end work before j = j-end - j
 
 trial-heights-requires : tie.Need-trial-heights-requires Inv-loop μ-loop
-trial-heights-requires c κs = can-try (c .before .pre)
+trial-heights-requires c κs = search needs
 
 slot-start-requires : tie.Need-slot-start-requires Inv-loop μ-loop
 slot-start-requires c κs =
-    let p = c .before .before .pre in let l = chip-limits _ (p .lawful) in (omega arith, omega arith, p .node, p .corner)
+    c .before .before .before .pre .address
 
 loop-holds : tie.Need-loop-holds Inv-loop μ-loop
 loop-holds c = (search needs, refl, none-filled)
 
 array-read-height : tie.Need-array-read-height Inv-loop μ-loop
 array-read-height c =
-    let p = c .before .before .before .before .before .pre in let l = chip-limits _ (p .lawful) in omega arith
+    let p = c .before .before .before .before .before .before .pre in let l = chip-limits _ (p .at .lawful) in omega arith
 
 listed-requires : tie.Need-listed-requires Inv-loop μ-loop
 listed-requires c κs = search needs
@@ -60,7 +60,7 @@ same-length c = same-long (c .before .loop .inv .2)
 returns : tie.Need-returns Inv-loop μ-loop
 returns c =
     let s = c .before .before in
-    slot-listed (s .before .before .before .pre) (s .before .trial-heights .ensures) (s .slot-start .ensures .0) (omega arith) (c .before .loop .inv .2)
+    slot-listed (s .before .before .before .before .pre) (s .before .trial-heights .ensures) (s .slot-start .ensures .0) (omega arith) (c .before .loop .inv .2)
 
 pub leaf-slot-spec : {M : Type 1} → statement M
 leaf-slot-spec =

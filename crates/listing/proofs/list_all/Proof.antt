@@ -2,6 +2,7 @@
 use mathlib.Core.Bool.{true, false}
 use native.Mathlib.Omega.{arith}
 use lib.ListN.{getD-replicate}
+use Rattle.rules.specs.Design.{mostTokens}
 use Rattle.rules.proofs.Limits.{limits}
 use Rattle.listing.proofs.Passing.{all-made}
 use borrow.Author.Needs.{needs}
@@ -20,7 +21,7 @@ same-length c = search needs
 returns : tie.Need-returns
 returns c =
     let lawful = c .before .before .before .before .before .before .pre .0 in let l = limits _ lawful in
-    all-made lawful (λ t h. getD-replicate 31 t true false (omega arith)) (c .before .before .list-marked .ensures)
+    all-made lawful (λ t h. getD-replicate mostTokens t true false (omega arith)) (c .before .before .list-marked .ensures)
 
 pub list-all-spec : {M : Type 1} → statement M
 list-all-spec =

@@ -3,7 +3,7 @@
 use mathlib.Core.Path.{sym, _∙_}
 use native.Mathlib.Omega.{arith}
 use borrow.Author.Needs.{needs}
-use Rattle.listing.proofs.Nodes.{few-nodes, module-of, never-beyond, leaf-room, leaf-made, left-before, cut-after, cut-room, cut-made}
+use Rattle.listing.proofs.Nodes.{few-nodes, module-of, never-beyond, leaf-ready, leaf-made, left-before, cut-after, cut-lent, cut-made}
 use Rattle.listing.proofs.list_node.Statement.{statement}
 use Rattle.listing.proofs.list_node.Tie as tie
 
@@ -34,7 +34,7 @@ cut-node-requires : tie.Need-cut-node-requires
 cut-node-requires c κs =
     let k = c .before .before in let f = k .before .before in let p = f .before .before .before .before .pre in
     let q = sym (f .token-of .ensures) ∙ k .token .given .1 in let l = left-before (p .0) (p .1) q in let a = cut-after (p .0) (p .1) q in
-    cut-room (p .0) (p .1) (f .before .before .board-of .ensures) (omega arith) (omega arith)
+    cut-lent (p .0) (p .1) (f .before .before .board-of .ensures) (omega arith) (omega arith)
 
 enum-known-token-2 : tie.Need-enum-known-token-2
 enum-known-token-2 c = search needs
@@ -52,7 +52,7 @@ element-copy-out-need c =
 leaf-node-requires : tie.Need-leaf-node-requires
 leaf-node-requires c κs =
     let k = c .before .before .before .before in let f = k .before .before in let p = f .before .before .before .before .pre in
-    leaf-room (p .0) (p .1) (f .before .before .board-of .ensures)
+    leaf-ready (p .0) (p .1) (f .before .before .board-of .ensures)
 
 enum-told : tie.Need-enum-told
 enum-told c = search needs

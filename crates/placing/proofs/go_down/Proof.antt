@@ -4,7 +4,8 @@ use native.Mathlib.Omega.{arith}
 use borrow.Author.Tests.{not-true, not-false}
 use borrow.Author.Needs.{needs}
 use Rattle.rules.proofs.Limits.{limits}
-use Rattle.placing.proofs.Going.{ready, laid-out, places-on, no-pair, all-tested}
+use Rattle.slots.proofs.Lending.{lent-of}
+use Rattle.placing.proofs.Going.{laid-out, places-on, no-pair, all-tested}
 use Rattle.placing.proofs.go_down.Statement.{statement}
 use Rattle.placing.proofs.go_down.Tie as tie
 
@@ -21,7 +22,9 @@ board-of-requires : tie.Need-board-of-requires
 board-of-requires c κs = search needs
 
 lay-out-requires : tie.Need-lay-out-requires
-lay-out-requires c κs = let p = c .before .before .before .before .before .pre in ready _ (p .lawful) (p .bytes) (c .board-of .ensures)
+lay-out-requires c κs =
+    let p = c .before .before .before .before .before .pre in let l = limits _ (p .lawful) in
+    (lent-of _ (p .lawful) (p .bytes) (c .board-of .ensures), omega arith)
 
 returns : tie.Need-returns
 returns c =

@@ -4,8 +4,7 @@ use native.Mathlib.Omega.{arith}
 use borrow.Author.Tests.{not-true, not-false}
 use borrow.Author.Needs.{needs}
 use Rattle.rules.proofs.Limits.{limits}
-use Rattle.choosing.proofs.Best.{ready-for}
-use Rattle.placing.proofs.Going.{ready}
+use Rattle.slots.proofs.Lending.{lent-of, fewer-lent}
 use Rattle.placing.proofs.Answering.{on-largest, none-chosen, this-chosen, answer-none, answer-lost, answer-done}
 use Rattle.placing.proofs.place_lists.Statement.{statement}
 use Rattle.placing.proofs.place_lists.Tie as tie
@@ -25,7 +24,7 @@ sub-best-shape c = omega (arith, limits _ (c .before .before .before .pre .0 .la
 best-shape-requires : tie.Need-best-shape-requires
 best-shape-requires c κs =
     let p = c .before .before .before .pre .0 in let l = limits _ (p .lawful) in
-    ready-for (ready _ (p .lawful) (p .bytes) (c .board-of .ensures)) _ (omega arith)
+    fewer-lent (lent-of _ (p .lawful) (p .bytes) (c .board-of .ensures)) _ (omega arith)
 
 returns : tie.Need-returns
 returns c =
@@ -47,7 +46,7 @@ returns-2 c =
 rows-out-requires : tie.Need-rows-out-requires
 rows-out-requires c κs =
     let e = c .before .before in let d = e .before .before in let p = d .before .before .before .before .before .before .before .pre .0 in
-    let l = limits _ (p .lawful) in (l .modules, p .places, on-largest p (d .go-down .ensures .chip (not-false _ (e .if2 .left))))
+    let l = limits _ (p .lawful) in record { few = l .modules; bytes = p .places; on = on-largest p (d .go-down .ensures .chip (not-false _ (e .if2 .left))) }
 
 same-length : tie.Need-same-length
 same-length c = search needs

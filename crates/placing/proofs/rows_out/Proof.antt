@@ -26,7 +26,7 @@ array-copy-out-row-out c = omega arith
 row-out-requires : tie.Need-row-out-requires Inv-loop μ-loop
 row-out-requires c κs =
     let l = c .before .before .before .loop in let p = c .before .before .before .before .before .pre in let h = c .before .before .loop-test .taken in
-    (omega arith, omega (arith, same-room (omega arith) (l .inv .1)), p .2 .on _ h)
+    (omega arith, omega (arith, same-room (omega arith) (l .inv .1)), p .on .on _ h)
 
 add-k : tie.Need-add-k Inv-loop μ-loop
 add-k c = omega arith

@@ -5,17 +5,17 @@ use Prim.Native.Nat.{_-_, _≤_}
 use native.Mathlib.Omega.{arith}
 use borrow.Author.Needs.{needs}
 use Rattle.rules.specs.Search.{all}
-use Rattle.rules.specs.Slot.{slot}
 use Rattle.rules.proofs.Test.{areStairs}
-use Rattle.stairs.specs.Walk.{nodeStairs}
 use Rattle.rules.proofs.Testing.{failed, passed, all-none, all-more, all-fails}
-use Rattle.stairs.proofs.Reaching.{node-room}
+use Rattle.slots.specs.Lent.{slotsOn}
+use Rattle.slots.proofs.Lending.{fewer-lent}
+use Rattle.stairs.specs.Walk.{nodeStairs}
 use Rattle.stairs.proofs.all_stairs.Statement.{statement}
 use Rattle.stairs.proofs.all_stairs.Tie as tie
 
 abbrev Inv-loop : tie.InvT-loop
 Inv-loop work board nodes t₀ t =
-    let W = board .width .0 in let H = board .height .0 in (t ≤ nodes) × (all t (nodeStairs W H (slot W H work)) ≡ true)
+    (t ≤ nodes) × (all t (nodeStairs board (slotsOn board work)) ≡ true)
 
 abbrev μ-loop : tie.MeasureT-loop
 μ-loop work board nodes t₀ t = nodes - t
@@ -24,7 +24,7 @@ loop-holds : tie.Need-loop-holds Inv-loop μ-loop
 loop-holds c = (search needs, all-none _)
 
 node-stairs-requires : tie.Need-node-stairs-requires Inv-loop μ-loop
-node-stairs-requires c κs = node-room (c .before .before .before .pre) (c .loop-test .taken)
+node-stairs-requires c κs = fewer-lent (c .before .before .before .pre) _ (c .loop-test .taken)
 
 returns : tie.Need-returns Inv-loop μ-loop
 unfolding areStairs

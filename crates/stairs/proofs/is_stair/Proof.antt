@@ -4,7 +4,7 @@ use mathlib.Core.Path.{sym, _∙_}
 use Prim.Native.Nat.{_-_, _≤_, _<_}
 use native.Mathlib.Omega.{arith}
 use borrow.Author.Needs.{needs}
-use Rattle.stairs.specs.Walk.{bytesFrom}
+use Rattle.slots.specs.Lent.{bytesFrom}
 use Rattle.stairs.proofs.Walking.{Walking, walk-starts, zeros-walked, run-walked, no-stair, stair-walked}
 use Rattle.stairs.proofs.is_stair.Statement.{statement}
 use Rattle.stairs.proofs.is_stair.Tie as tie

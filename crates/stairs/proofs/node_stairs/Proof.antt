@@ -5,18 +5,17 @@ use Prim.Native.Nat.{_-_, _≤_}
 use native.Mathlib.Omega.{arith}
 use borrow.Author.Needs.{needs}
 use Rattle.rules.specs.Search.{all}
-use Rattle.rules.specs.Slot.{slot}
-use Rattle.stairs.specs.Walk.{rowStairs}
 use Rattle.rules.proofs.Testing.{failed, passed, all-none, all-more, all-fails}
+use Rattle.slots.specs.Lent.{slotsOn}
+use Rattle.stairs.specs.Walk.{rowStairs}
 use Rattle.stairs.proofs.node_stairs.Statement.{statement}
 use Rattle.stairs.proofs.node_stairs.Tie as tie
 
 abbrev Inv-loop : tie.InvT-loop
-Inv-loop work board t height y₀ y =
-    let W = board .width .0 in let H = board .height .0 in (y ≤ height) × (all y (rowStairs W H (slot W H work t)) ≡ true)
+Inv-loop work board t rows y₀ y = (y ≤ rows) × (all y (rowStairs board (slotsOn board work t)) ≡ true)
 
 abbrev μ-loop : tie.MeasureT-loop
-μ-loop work board t height y₀ y = height - y
+μ-loop work board t rows y₀ y = rows - y
 
 loop-holds : tie.Need-loop-holds Inv-loop μ-loop
 loop-holds c = (search needs, all-none _)
@@ -39,7 +38,7 @@ loop-again c =
 
 returns-2 : tie.Need-returns-2 Inv-loop μ-loop
 returns-2 c =
-    let l = c .before in let e : l .loop .y ≡ l .before .before .args .board .height .0 = omega arith in
+    let l = c .before in let e : l .loop .y ≡ l .before .before .args .board .listed .0 = omega arith in
     rw e at (sym (l .loop .inv .1))
 
 pub node-stairs-spec : {M : Type 1} → statement M

@@ -4,7 +4,7 @@ use mathlib.Core.Logic.{⊎-elim}
 use Prim.Native.Nat.{_-_, _≤_}
 use native.Mathlib.Omega.{arith}
 use borrow.Author.Needs.{needs}
-use Rattle.stairs.specs.Walk.{bytesFrom}
+use Rattle.slots.specs.Lent.{bytesFrom}
 use Rattle.stairs.proofs.Walking.{Walking, walk-starts, walk-ends, zero-walked, fall-walked, off-chip, too-high}
 use Rattle.stairs.proofs.walk.Statement.{statement}
 use Rattle.stairs.proofs.walk.Tie as tie

@@ -1,0 +1,2 @@
+-- What the services test before they begin.
+pub mod Tested
