@@ -111,10 +111,10 @@ module _ (d : Design) (p : Placement) {t : ℕ} {s : Pass} where
       rw (e, a, b, P .stacked .0, P .stacked .1 .0) (kept-by-extents (d .modules) c l r p
       (λ i u. below i (or-iff (has l i) (has r i) .1 (inl u))) (λ i u. below i (or-iff (has l i) (has r i) .1 (inr u))))
 
-  ready-for : (rows : List ℕ) → d .modules ≤ mostModules → 4 * d .modules ≤ length rows → {us vs : List Tree} → Step d t us vs
+  ready-for : (rows : List ℕ) → 4 * d .modules ≤ length rows → {us vs : List Tree} → Step d t us vs
       → t < mostTokens → Passed p t us s → Ready rows (s .standing) (tokenAt d t)
-  ready-for rows m l (module-stands e b) h P = rw e (omega (arith, P .high, P .few))
-  ready-for rows m l (cut-joins e) h P = rw e (omega (arith, P .high, P .few))
+  ready-for rows l (module-stands e b) h P = rw e (omega (arith, P .high, P .few))
+  ready-for rows l (cut-joins e) h P = rw e (omega (arith, P .high, P .few))
 
 -- the pass over a lawful design's tokens, at position t: nothing stands yet; it goes on; the cut just read is kept or not; and
 -- there is room for what the token adds
@@ -130,7 +130,7 @@ module _ (d : Design) (lawful : LawfulDesign d) (p : Placement) {t : ℕ} {s : P
   short = let m = limits d lawful .modules in omega arith
 
   pub is-ready : {token : Token} → token ≡ tokenAt d t → (rows : List ℕ) → 4 * d .modules ≤ length rows → Ready rows (s .standing) token
-  is-ready e rows l = rw e (ready-for d p rows (limits d lawful .modules) l (step d lawful t h) short P)
+  is-ready e rows l = rw e (ready-for d p rows l (step d lawful t h) short P)
 
   pub passed-next : {token : Token} {r : Pass} → token ≡ tokenAt d t → r ≡ afterToken p s token → PassedAt d p (t + 1) r
   passed-next e q = rw (q, e, add-one) (next d p (step d lawful t h) short P)

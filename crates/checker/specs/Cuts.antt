@@ -56,5 +56,5 @@ afterToken p s Beyond = s
 -- there is room for what the token adds, and what it joins stands
 abbrev pub Ready : List ℕ → ℕ → Token → Type 0
 Ready rows standing (Cut d) = (2 ≤ standing) × (standing ≤ mostTokens)
-Ready rows standing (Module k) = (standing < mostTokens) × (k < mostModules) × (4 * k + 3 < length rows)
+Ready rows standing (Module k) = (standing < mostTokens) × (4 * k + 4 ≤ length rows)
 Ready rows standing Beyond = Unit {0}

@@ -9,13 +9,6 @@ use Rattle.rules.specs.declared.Reply.the-variants.{Done, Refused}
 use Rattle.rules.specs.Placement.{Placement}
 use Rattle.rules.specs.Check.{isOn, isSuited}
 
--- a rectangle from four bytes
-pub record Bytes (r : Rectangle) : Type 0 where
-  pub x : r .corner .x .0 < 256
-  pub y : r .corner .y .0 < 256
-  pub w : r .shape .w .0 < 256
-  pub h : r .shape .h .0 < 256
-
 -- "(12 before 13 for each)": the reply to a module that is on the chip or not, and suited or not
 abbrev pub moduleReply : ℕ → Bool → Bool → Reply
 moduleReply k true true = Done

@@ -1,5 +1,6 @@
 // The checker's judgement of a floorplan: from the design and the rows alone, with no lists.
 use holding::suits;
+use rows::rectangle_at;
 use rules::Columns;
 use rules::Corner;
 use rules::Design;
@@ -9,7 +10,6 @@ use rules::Rectangle;
 use rules::Refusal;
 use rules::Reply;
 use rules::Rows;
-use rules::Shape;
 use rules::Token;
 use tokens::token_of;
 ghost use mathlib.Core.Path.{_≡_};
@@ -17,7 +17,8 @@ ghost use Prim.Native.Nat.{_+_, _*_, _-_, _≤_, _<_, min, max};
 ghost use lib.ListN.{length};
 ghost use Rattle.rules.specs.Design.{mostModules, LawfulDesign, mostTokens};
 ghost use Rattle.rules.specs.Check.{fromRows, isOnChip, judgedCuts, judgedRows};
-ghost use Rattle.checker.specs.Modules.{Bytes, judgedModule};
+ghost use Rattle.rows.specs.Row.{Bytes};
+ghost use Rattle.checker.specs.Modules.{judgedModule};
 ghost use Rattle.checker.specs.Cuts.{extentOf, together, endsBefore, atStart, afterModule, afterCut, afterToken, Ready};
 
 // The sides of what lies below a node: the least left and bottom, the greatest right and top of its modules' rectangles.
@@ -31,23 +32,6 @@ struct Pass {
     pub extents: [Extent; MOST_TOKENS],
     pub standing: usize,
     pub kept: bool,
-}
-
-// The rectangle of module k, from its four bytes.
-fn rectangle_at(rows: &[u8], k: usize) -> Rectangle
-    requires { ⌜ (k < mostModules) × (4 * k + 3 < length (now rows)) ⌝ }
-    ensures { λ r. ⌜ (r ≡ fromRows (now (rows .entry)) k) × Bytes r ⌝ }
-{
-    let at = 4 * k;
-    let corner = Corner {
-        x: Columns(rows[at] as usize),
-        y: Rows(rows[at + 1] as usize),
-    };
-    let shape = Shape {
-        w: Columns(rows[at + 2] as usize),
-        h: Rows(rows[at + 3] as usize),
-    };
-    Rectangle { corner, shape }
 }
 
 // Neither side is zero, and the rectangle ends on the chip.

@@ -19,7 +19,7 @@ use Rattle.rules.specs.declared.Design.{Design}
 use Rattle.rules.specs.Chip.{corner}
 use Rattle.rules.specs.Tree.{Tree, leaf, cut, position, has, stands}
 use Rattle.rules.specs.Choice.{beside}
-use Rattle.rules.specs.Design.{mostModules, tokenIn, nodes, root, LawfulDesign}
+use Rattle.rules.specs.Design.{mostTokens, mostModules, tokenIn, nodes, root, LawfulDesign}
 use Rattle.rules.proofs.Test.{leftShape, rightShape, hasPair, goesDown, laid}
 use Rattle.rules.proofs.Searching.{absurd-so, and-iff, or-iff, eqb-iff, same-test}
 use Rattle.rules.proofs.Standing.{Once, Part, whole, in-left, in-right, Among, here, there, joined-among, joined-stands, Reading, none-read, module-read, cut-read, last-is, last-position}
@@ -70,7 +70,7 @@ once-part (in-right p) o = once-part p (o .1)
 
 -- the arrays' lengths
 record Sized (e : Descent) : Type 0 where
-  rooms : length (e .rooms) ≡ 2 * mostModules - 1
+  rooms : length (e .rooms) ≡ mostTokens
   places : length (e .places) ≡ mostModules
 
 module _ (board : Board) (slots : ℕ → Corner → ℕ → ℕ) where
@@ -132,13 +132,13 @@ module _ (board : Board) (slots : ℕ → Corner → ℕ → ℕ) where
     right : Rectangle
     right = record { corner = beside d c (leftShape W H d L R c box); shape = rightShape W H d L R c box }
 
-    given-left : Sized e → position l < position r → position r < 2 * mostModules - 1
+    given-left : Sized e → position l < position r → position r < mostTokens
         → roomOf (givenRooms (position l) left (position r) right e) (position l) ≡ left
     given-left z h k =
         getD-set-other (set (e .rooms) (position l) left) (position r) (position l) right nowhere (λ q. omega arith)
         ∙ getD-set-same (e .rooms) (position l) left nowhere (omega (arith, z .rooms))
 
-    given-right : Sized e → position r < 2 * mostModules - 1 → roomOf (givenRooms (position l) left (position r) right e) (position r) ≡ right
+    given-right : Sized e → position r < mostTokens → roomOf (givenRooms (position l) left (position r) right e) (position r) ≡ right
     given-right z k = getD-set-same (set (e .rooms) (position l) left) (position r) right nowhere (rw length-set (omega (arith, z .rooms)))
 
     given-other : (t : ℕ) → t < position l → position l < position r
@@ -165,7 +165,7 @@ module _ (board : Board) (slots : ℕ → Corner → ℕ → ℕ) where
           ⊎-elim (λ i. a i ∙ sym (merge-left l (laid W H slots l (left .corner) (left .shape)) _ k i)) (λ i. b i ∙ sym (merge-right l r (laid W H slots l (left .corner) (left .shape)) _ k apart i))
           (or-iff (has l k) (has r k) .0 s)
 
-      pair-comes : Sized e → position l < position r → position r < 2 * mostModules - 1 → Falls (position l) ts → So (hasPair W H d L R c box)
+      pair-comes : Sized e → position l < position r → position r < mostTokens → Falls (position l) ts → So (hasPair W H d L R c box)
           → Comes (givenRooms (position l) left (position r) right e) (r ∷ (l ∷ ts)) end → Comes e (cut n d l r ∷ ts) end
       unfolding Down c box
       pair-comes z h k f t C =
@@ -187,7 +187,7 @@ module _ (board : Board) (slots : ℕ → Corner → ℕ → ℕ) where
             );
           }
 
-      cut-comes : Sized e → position l < position r → position r < 2 * mostModules - 1 → Falls (position l) ts
+      cut-comes : Sized e → position l < position r → position r < mostTokens → Falls (position l) ts
           → Comes (downPair d (position l) (position r) c (pairOf W H d L R c box) e) (r ∷ (l ∷ ts)) end → Comes e (cut n d l r ∷ ts) end
       unfolding pairOf left right
       cut-comes z h k f C = go (hasPair W H d L R c box) refl C
@@ -214,7 +214,7 @@ sized-pair d l r c None z = record { rooms = z .rooms; places = z .places }
 abbrev paired : Board → (ℕ → Corner → ℕ → ℕ) → Direction → ℕ → ℕ → ℕ → Descent → Descent
 paired board slots d l r t e = downPair d l r (roomOf e t .corner) (pairIn board slots d l r (roomOf e t .corner) (roomOf e t .shape)) e
 
-module _ (board : Board) (slots : ℕ → Corner → ℕ → ℕ) (tokens lefts : List ℕ) (m N : ℕ) (few : m ≤ mostModules) (short : N ≤ 2 * mostModules - 1)
+module _ (board : Board) (slots : ℕ → Corner → ℕ → ℕ) (tokens lefts : List ℕ) (m N : ℕ) (few : m ≤ mostModules) (short : N ≤ mostTokens)
     (positions : (t : ℕ) (k : Direction) (l r : Tree) (us : List Tree) → t < N → Reading m (tokenIn tokens) (suc t) (cut t k l r ∷ us) → getD lefts t 0 ≡ position l) where
   -- the nodes that tokens read from the first on
   comes : {n : ℕ} {ts : List Tree} → Reading m (tokenIn tokens) n ts → n ≤ N → OnceAmong ts → (e : Descent) → Sized e
@@ -231,15 +231,15 @@ module _ (board : Board) (slots : ℕ → Corner → ℕ → ℕ) (tokens lefts 
       (sized-pair d (position l) (position r) (roomOf e n .corner) (pairIn board slots d (position l) (position r) (roomOf e n .corner) (roomOf e n .shape)) z)))
 
 -- the first descent: the root's rectangle, and the lengths
-first-room : (n : ℕ) (s : Shape) (t : ℕ) → suc t ≡ n → n ≤ 2 * mostModules - 1 → roomOf (firstDescent n s) t ≡ record { corner = corner 0 0; shape = s }
+first-room : (n : ℕ) (s : Shape) (t : ℕ) → suc t ≡ n → n ≤ mostTokens → roomOf (firstDescent n s) t ≡ record { corner = corner 0 0; shape = s }
 unfolding firstDescent
 first-room n s t e h =
     let x : n - 1 ≡ t = omega arith in
-    rw x (getD-set-same (replicate (2 * mostModules - 1) nowhere) t _ nowhere (omega arith))
+    rw x (getD-set-same (replicate mostTokens nowhere) t _ nowhere (omega arith))
 
 first-sized : (n : ℕ) (s : Shape) → Sized (firstDescent n s)
 unfolding firstDescent
-first-sized n s = record { rooms = length-set (replicate (2 * mostModules - 1) nowhere) (n - 1) _; places = refl }
+first-sized n s = record { rooms = length-set (replicate mostTokens nowhere) (n - 1) _; places = refl }
 
 first-ok : (n : ℕ) (s : Shape) → So (firstDescent n s .ok)
 unfolding firstDescent

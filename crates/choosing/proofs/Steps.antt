@@ -18,7 +18,7 @@ use Rattle.rules.specs.declared.Token.{Token}
 use Rattle.rules.specs.declared.Token.the-variants.{Cut, Module, Beyond}
 use Rattle.rules.specs.Chip.{corner}
 use Rattle.rules.specs.Choice.{beside}
-use Rattle.rules.specs.Design.{mostModules}
+use Rattle.rules.specs.Design.{mostTokens}
 use Rattle.slots.specs.declared.Board.{Board}
 use Rattle.slots.specs.Lent.{OnBoard, Lent}
 use Rattle.choosing.specs.declared.Pair.{Pair}
@@ -69,8 +69,8 @@ module _ {board : Board} where
   first-settled n s r =
       let z : OnBoard board (corner 0 0) = record { column = r .wide; row = omega (arith, r .high, r .chip) } in
       record {
-        on = set-keeps (λ q. OnBoard board (q .corner)) (replicate (2 * mostModules - 1) nowhere) (n - 1) _
-            (λ t. all-nowhere (λ q. OnBoard board (q .corner)) (2 * mostModules - 1) t z) z;
+        on = set-keeps (λ q. OnBoard board (q .corner)) (replicate mostTokens nowhere) (n - 1) _
+            (λ t. all-nowhere (λ q. OnBoard board (q .corner)) mostTokens t z) z;
       }
 
   pair-settled : {e : Descent} (d : Direction) (l r : ℕ) (c : Corner) (p : Pair) → OnBoard board c → ((s o : Shape) → p ≡ Taken s o → OnBoard board (beside d c s))

@@ -14,7 +14,7 @@ use Rattle.rules.specs.declared.Token.the-variants.{Cut, Module, Beyond}
 use Rattle.rules.specs.declared.Design.{Design}
 use Rattle.rules.specs.Chip.{corner, rectangle}
 use Rattle.rules.specs.Choice.{beside}
-use Rattle.rules.specs.Design.{mostModules, tokenIn, nodes, root, LawfulDesign}
+use Rattle.rules.specs.Design.{mostTokens, mostModules, tokenIn, nodes, root, LawfulDesign}
 use Rattle.rules.proofs.Test.{goesDown, laid}
 use Rattle.slots.specs.declared.Board.{Board}
 use Rattle.slots.specs.Lent.{OnBoard}
@@ -39,7 +39,7 @@ placeOf places k = getD places k nowhere
 unfoldable pub firstDescent : ℕ → Shape → Descent
 firstDescent n s = record {
   ok = true;
-  rooms = set (replicate (2 * mostModules - 1) nowhere) (n - 1) (record { corner = corner 0 0; shape = s });
+  rooms = set (replicate mostTokens nowhere) (n - 1) (record { corner = corner 0 0; shape = s });
   places = replicate mostModules nowhere;
 }
 

@@ -6,7 +6,7 @@ ghost use lib.ListN.{length};
 ghost use Rattle.rules.specs.Chip.{corner};
 ghost use Rattle.rules.specs.Tree.{tokenOf};
 ghost use Rattle.rules.specs.Choice.{beside, pairing};
-ghost use Rattle.rules.specs.Design.{mostColumns, mostModules};
+ghost use Rattle.rules.specs.Design.{mostTokens, mostColumns, mostModules};
 ghost use Rattle.slots.specs.Lent.{OnBoard, slotsOn, bytesFrom, Lent};
 ghost use Rattle.choosing.specs.Choose.{Near, Storable, shapeAt, chosenShape, betterOf, pairIn, takenIf};
 ghost use Rattle.choosing.specs.Choose.{firstOf, firstPair, makesWhole, pairAt, pairBeside};
@@ -271,7 +271,7 @@ fn stopped(descent: Descent) -> Descent
 
 // "A leaf's rectangle is its shape at its corner."
 fn down_leaf(k: usize, t: usize, descent: Descent) -> Descent
-    requires { ⌜ (k < mostModules) × (t < 2 * mostModules - 1) ⌝ }
+    requires { ⌜ (k < mostModules) × (t < mostTokens) ⌝ }
     ensures { λ r. ⌜ r ≡ downLeaf k t descent ⌝ }
 {
     let rooms = descent.rooms;
@@ -292,7 +292,7 @@ fn given(
     right: usize,
     right_room: Rectangle,
 ) -> Descent
-    requires { ⌜ (left < 2 * mostModules - 1) × (right < 2 * mostModules - 1) ⌝ }
+    requires { ⌜ (left < mostTokens) × (right < mostTokens) ⌝ }
     ensures { λ r. ⌜ r ≡ givenRooms left «left_room» right «right_room» descent ⌝ }
 {
     let places = descent.places;
@@ -354,7 +354,7 @@ fn down_node(work: &[u8], board: Board, v: u8, left: u8, t: usize, descent: Desc
 
 // Going down from the root's shape at (0, 0).
 fn first_descent(nodes: usize, shape: Shape) -> Descent
-    requires { ⌜ (1 ≤ nodes) × (nodes ≤ 2 * mostModules - 1) ⌝ }
+    requires { ⌜ (1 ≤ nodes) × (nodes ≤ mostTokens) ⌝ }
     ensures { λ r. ⌜ r ≡ firstDescent nodes shape ⌝ }
 {
     let origin = Corner {

@@ -3,6 +3,7 @@ use choosing::Layout;
 use choosing::best_shape;
 use choosing::lay_out;
 use holding::suits;
+use rows::row_out;
 use rules::Design;
 use rules::MOST_MODULES;
 use rules::Planned;
@@ -56,18 +57,6 @@ fn go_down(design: Design, work: &[u8], shape: Shape) -> Layout
         ok: all_suit(design, places),
         places,
     }
-}
-
-// Stores module k's four bytes: x, y, w, h.
-fn row_out(rows: &mut [u8], k: usize, r: Rectangle)
-    requires { ⌜ (k < mostModules) × (4 * k + 4 ≤ length (now rows)) × OnChip mostColumns mostRows r ⌝ }
-    ensures { λ _. ⌜ now (rows .exit) ≡ sets (now (rows .entry)) (4 * k) (rowOf r) ⌝ }
-{
-    let at = 4 * k;
-    rows[at] = r.corner.x.0 as u8;
-    rows[at + 1] = r.corner.y.0 as u8;
-    rows[at + 2] = r.shape.w.0 as u8;
-    rows[at + 3] = r.shape.h.0 as u8;
 }
 
 // "Rows out: four bytes x, y, w, h for each module, in module order; lent bytes past 4m stay."

@@ -1,5 +1,6 @@
 // The plan program's text: put into bytes that are lent, byte for byte as the rules have it.
 use replies::number_of;
+use rows::rectangle_at;
 use rules::Planned;
 ghost use mathlib.Core.List.{[], _∷_};
 ghost use Prim.Native.Nat.{_+_, _*_, _≤_, _<_};
@@ -74,13 +75,8 @@ fn put_module(out: &mut [u8], at: usize, k: usize, rows: &[u8]) -> usize
     requires { ⌜ (at + 30 ≤ length (now out)) × (4 * k + 4 ≤ length (now rows)) ⌝ }
     ensures { λ r. ⌜ Put (now (out .entry)) at (moduleLine k (now (rows .entry))) r (now (out .exit)) ⌝ }
 {
-    let first = 4 * k;
-    let numbers = [
-        rows[first] as usize,
-        rows[first + 1] as usize,
-        rows[first + 2] as usize,
-        rows[first + 3] as usize,
-    ];
+    let r = rectangle_at(rows, k);
+    let numbers = [r.corner.x.0, r.corner.y.0, r.shape.w.0, r.shape.h.0];
     let next = put_decimal(out, at, DIGITS, k);
     put_figures(out, next, &numbers)
 }

@@ -11,7 +11,7 @@ use Rattle.rules.specs.declared.Token.the-variants.{Beyond}
 use Rattle.rules.specs.declared.Design.{Design}
 use Rattle.rules.specs.Chip.{kindAt}
 use Rattle.rules.specs.Tree.{Tree, tokenOf}
-use Rattle.rules.specs.Design.{mostColumns, mostRows, lastKind, mostModules, mostNumber}
+use Rattle.rules.specs.Design.{mostTokens, mostColumns, mostRows, lastKind, mostModules, mostNumber}
 use Rattle.rules.specs.Design.{needAt, tokenAt, nodes, LawfulDesign, widthOf, heightOf}
 use Rattle.rules.specs.Bytes.{numberBytes, needBytes, rowBytes, designBytes}
 use Rattle.rules.proofs.Standing.{Node, is-leaf, is-cut}
@@ -57,7 +57,7 @@ module _ (d : Design) (lawful : LawfulDesign d) where
       (row-short numberBytes (kindAt (d .chip)) kind (widthOf d) (λ x i. lesser-shorter _ lastKind (l .chip .kinds x i)))
       (mul-le-mul-left kind (l .chip .width)) in
       let needs = le-trans (row-short needBytes (needAt d) need (d .modules) need-small) (mul-le-mul-left need (l .modules)) in
-      let few : nodes d ≤ 2 * mostModules - 1 = omega arith in
+      let few : nodes d ≤ mostTokens = omega arith in
       let tokens = le-trans
       (row-short numberBytes (λ t. getD (d .tokens) t 0) token (nodes d)
       (λ t i. lesser-shorter _ (mostModules + 1) (token-small t i))) (mul-le-mul-left token few) in

@@ -4,7 +4,7 @@ use mathlib.Core.List.{List, _++_}
 use Prim.Native.Nat.{ℕ, _+_, _-_, _*_}
 use lib.ListN.{length, getD}
 use Rattle.rules.specs.declared.Design.{Design}
-use Rattle.rules.specs.Design.{mostColumns, mostRows, lastKind, mostModules, mostNumber, needAt, nodes, widthOf, heightOf}
+use Rattle.rules.specs.Design.{mostTokens, mostColumns, mostRows, lastKind, mostModules, mostNumber, needAt, nodes, widthOf, heightOf}
 use Rattle.rules.specs.Bytes.{numberBytes, needBytes, rowBytes}
 
 -- a row of bytes, each written as a number: the kinds, and the tokens
@@ -25,4 +25,4 @@ widest most = length (numberBytes most)
 unfoldable pub designRoom : ℕ
 designRoom =
     widest 1 + widest mostColumns + widest mostRows + widest mostRows + widest lastKind * mostColumns + widest mostModules
-    + 3 * widest mostNumber * mostModules + widest (mostModules + 1) * (2 * mostModules - 1)
+    + 3 * widest mostNumber * mostModules + widest (mostModules + 1) * mostTokens

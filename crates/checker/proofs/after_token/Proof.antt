@@ -14,7 +14,7 @@ enum-known-token-2 : tie.Need-enum-known-token-2
 enum-known-token-2 c = search needs
 
 rectangle-at-requires : tie.Need-rectangle-at-requires
-rectangle-at-requires c κs = let r = rw (c .before .token2 .given .1) at (c .before .before .before .before .pre) in (r .1, r .2)
+rectangle-at-requires c κs = let r = rw (c .before .token2 .given .1) at (c .before .before .before .before .pre) in r .1
 
 extent-of-requires : tie.Need-extent-of-requires
 extent-of-requires c κs = search needs

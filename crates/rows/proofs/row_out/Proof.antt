@@ -5,8 +5,8 @@ use native.Mathlib.Omega.{arith}
 use native.Mathlib.Numerals.{add-one}
 use lib.ListN.{length-set}
 use borrow.Author.Needs.{needs}
-use Rattle.placing.proofs.row_out.Statement.{statement}
-use Rattle.placing.proofs.row_out.Tie as tie
+use Rattle.rows.proofs.row_out.Statement.{statement}
+use Rattle.rows.proofs.row_out.Tie as tie
 
 add-two : (n : ℕ) → n + 2 ≡ suc (suc n)
 add-two n = omega arith

@@ -1,12 +1,12 @@
--- `checker::rectangle_at` meets its contract: the four places lie within the rows, and each holds a byte.
+-- `rows::rectangle_at` meets its contract: the four places lie within the rows, and each holds a byte.
 -- Assumes nothing.
 use mathlib.Core.Path.{refl}
 use Prim.Native.Nat.{_+_, _*_}
 use native.Mathlib.Omega.{arith}
 use borrow.Author.Needs.{needs}
 use Rattle.rules.specs.Check.{fromRows}
-use Rattle.checker.proofs.rectangle_at.Statement.{statement}
-use Rattle.checker.proofs.rectangle_at.Tie as tie
+use Rattle.rows.proofs.rectangle_at.Statement.{statement}
+use Rattle.rows.proofs.rectangle_at.Tie as tie
 
 mul-at : tie.Need-mul-at
 mul-at c = search needs

@@ -1,0 +1,2 @@
+-- What a row can hold.
+pub mod Row
