@@ -22,7 +22,7 @@ use Rattle.rules.proofs.Testing.{range-iff}
 use Rattle.rules.proofs.Nodes.{never-not-one-thing}
 use Rattle.rules.proofs.Standing.{one-stands}
 use Rattle.rules.proofs.Numbers.{Answers, takes, refuses, number-read}
-use Rattle.rules.proofs.Reading.{oneMore, allMore, over-nothing}
+use Rattle.rules.proofs.Taking.{oneMore, allMore, over-nothing}
 use Rattle.promises.specs.Demand1.{Tested, breaks-limits, bad-token}
 
 -- a design that its own tests refuse: 4, or else 5

@@ -17,7 +17,7 @@ use Rattle.rules.proofs.Searching.{eqb-iff, same-test}
 use Rattle.rules.proofs.Testing.{range-iff}
 use Rattle.rules.proofs.Standing.{one-stands}
 use Rattle.rules.proofs.Numbers.{Answers, takes, refuses, number-read, number-alike, first-alike}
-use Rattle.rules.proofs.Reading.{Reads, checked-read, need-read, row-read, oneMore, allMore, over-nothing, tokens-read}
+use Rattle.rules.proofs.Taking.{Reads, checked-read, need-read, row-read, oneMore, allMore, over-nothing, tokens-read}
 
 -- two readings that begin alike and go on alike
 then-alike : {A B : Type 0} {Q : A → ℕ → Type 0} {E : Refusal → Type 0} {t t' : Took A} {u v : A → ℕ → Took B} → t ≡ t' → Answers Q E t

@@ -23,9 +23,15 @@ pub mod Floorplans
 pub mod Checking
 pub mod RowsOut
 pub mod Numbers
+pub mod Padding
+pub mod Passing
+pub mod Taking
+pub mod Rereading
 pub mod Reading
 pub mod Deciding
+pub mod Alike
 pub mod Changing
+pub mod OneChange
 pub mod Relisting
 pub mod Working
 pub mod Stairs

@@ -25,7 +25,8 @@ use Rattle.rules.proofs.Fitting.{Decides}
 use Rattle.rules.proofs.Suiting.{design-decides}
 use Rattle.rules.proofs.Listing.{same-list}
 use Rattle.rules.proofs.Pairing.{pairings-list-the-cut}
-use Rattle.rules.proofs.Changing.{Alike, alike-off, alike-spans, edit-lawful, edit-nodes, edit-keeps, edit-rows}
+use Rattle.rules.proofs.Alike.{Alike, alike-off, alike-spans}
+use Rattle.rules.proofs.Changing.{edit-lawful, edit-nodes, edit-keeps, edit-rows}
 use Rattle.rules.proofs.Limits.{every-row}
 use Rattle.rules.proofs.Agreeing.{all-rows}
 
