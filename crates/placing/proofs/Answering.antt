@@ -15,16 +15,13 @@ use Rattle.rules.specs.Chip.{corner}
 use Rattle.rules.specs.Placement.{Placement}
 use Rattle.rules.specs.Slot.{Empty}
 use Rattle.rules.specs.Choice.{Chosen, rowsOut}
-use Rattle.rules.specs.Design.{mostColumns, mostRows, nodes, root, slotsOf, rootSlot, SuitsOf, GoesDown, widthOf, heightOf}
-use Rattle.rules.specs.Check.{isSuited}
+use Rattle.rules.specs.Design.{mostColumns, mostRows, nodes, slotsOf, rootSlot, GoesDown, widthOf, heightOf}
 use Rattle.rules.specs.Service.{Enough}
-use Rattle.rules.proofs.Test.{laid}
+use Rattle.rules.proofs.Test.{laidFor}
 use Rattle.rules.proofs.Searching.{absurd-so}
-use Rattle.rules.proofs.Nodes.{lawful-tree}
 use Rattle.rules.proofs.Limits.{limits}
 use Rattle.rules.proofs.Choosing.{chosen-once}
-use Rattle.rules.proofs.Descending.{laid-down, down-laid}
-use Rattle.rules.proofs.Floorplans.{suited-decides}
+use Rattle.rules.proofs.Floorplans.{laid-goes, goes-laid}
 use Rattle.rules.proofs.RowsOut.{rows-same}
 use Rattle.slots.specs.declared.Board.{Board}
 use Rattle.slots.specs.Size.{boardOf}
@@ -65,10 +62,8 @@ module _ {d : Design} {work rows : List ℕ} (room : Enough d work rows) where
     went : (o : Shape) (p : Placement) → Chosen (widthOf d) (rootSlot d (slotsOf d work)) o → GoesDown d (slotsOf d work) o p
         → So (r .ok) × ((k : ℕ) → k < d .modules → p k ≡ placeOf (r .places) k)
     went o p x down =
-        let T = lawful-tree d (room .lawful) in
-        let (g, f) = down-laid (widthOf d) (heightOf d) (SuitsOf d) (slotsOf d work) (isSuited d) (suited-decides d) (root d) (T .once)
-        (corner 0 0) s p (rw (only o x) at down) in
-        let ok : So (r .ok) = w .ok ∙ g in (ok, λ k h. f k (T .modules k .1 h) ∙ sym (w .places ok k h))
+        let (g, f) = goes-laid d (room .lawful) (slotsOf d work) s p (rw (only o x) at down) in
+        let ok : So (r .ok) = w .ok ∙ g in (ok, λ k h. f k h ∙ sym (w .places ok k h))
 
     pub answer-lost : r .ok ≡ false → PlacedFrom d work rows (Refused Unreliable) rows
     answer-lost e = record {
@@ -78,10 +73,8 @@ module _ {d : Design} {work rows : List ℕ} (room : Enough d work rows) where
     }
 
     -- where the layout did, so does one
-    laid-went : r .ok ≡ true → GoesDown d (slotsOf d work) s (laid (widthOf d) (heightOf d) (slotsOf d work) (root d) (corner 0 0) s)
-    laid-went e =
-        laid-down (widthOf d) (heightOf d) (SuitsOf d) (slotsOf d work) (isSuited d) (suited-decides d) (root d)
-        (lawful-tree d (room .lawful) .once) (corner 0 0) s (sym (w .ok) ∙ e)
+    laid-went : r .ok ≡ true → GoesDown d (slotsOf d work) s (laidFor d (slotsOf d work) s)
+    laid-went e = laid-goes d (room .lawful) (slotsOf d work) s (sym (w .ok) ∙ e)
 
     pub answer-done : {rows' : List ℕ} → r .ok ≡ true → rows' ≡ rowsOut (d .modules) (placeOf (r .places)) ++ drop (4 * d .modules) rows
         → PlacedFrom d work rows (Box s) rows'

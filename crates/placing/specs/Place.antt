@@ -11,14 +11,13 @@ use Rattle.rules.specs.declared.Design.{Design}
 use Rattle.rules.specs.declared.Refusal.the-variants.{Unreliable, NoPlacement}
 use Rattle.rules.specs.declared.Planned.{Planned}
 use Rattle.rules.specs.declared.Planned.the-variants.{Box, Refused}
-use Rattle.rules.specs.Chip.{corner, OnChip}
+use Rattle.rules.specs.Chip.{OnChip}
 use Rattle.rules.specs.Placement.{Placement}
 use Rattle.rules.specs.Slot.{Stores, Empty}
 use Rattle.rules.specs.Choice.{Chosen, rowsOut}
-use Rattle.rules.specs.Design.{mostColumns, mostRows, mostModules, root, LawfulDesign, slotsOf, AllStairs, rootSlot, GoesDown, widthOf, heightOf}
-use Rattle.rules.specs.Check.{isSuited}
+use Rattle.rules.specs.Design.{mostColumns, mostRows, mostModules, givenFor, LawfulDesign, slotsOf, AllStairs, rootSlot, GoesDown, widthOf, heightOf}
 use Rattle.rules.specs.Service.{workOf, rowsOf}
-use Rattle.rules.proofs.Test.{goesDown, laid}
+use Rattle.rules.proofs.Test.{goesFor, laidFor}
 use Rattle.choosing.specs.declared.Layout.{Layout}
 use Rattle.choosing.specs.Descend.{placeOf}
 
@@ -33,11 +32,14 @@ pub record FromStairs (d : Design) (work : List ℕ) (s : Shape) : Type 0 where
   pub stairs : AllStairs d (slotsOf d work)
   pub stored : Stores (widthOf d) (rootSlot d (slotsOf d work)) s
 
--- what going down from the root's shape at (0, 0) gives, where the leaves have to suit
+-- the places are the rectangles that the modules are given for these rooms
+abbrev pub GivenIn : Design → List Rectangle → List Rectangle → Type 0
+GivenIn d rooms places = (k : ℕ) → k < d .modules → placeOf places k ≡ givenFor d k (placeOf rooms k)
+
+-- what going down from the root's shape at (0, 0) gives, where what the modules are given has to suit
 pub record WentDown (d : Design) (slots : ℕ → Corner → ℕ → ℕ) (s : Shape) (r : Layout) : Type 0 where
-  pub ok : r .ok ≡ goesDown (widthOf d) (heightOf d) (isSuited d) slots (root d) (corner 0 0) s
-  pub places : So (r .ok) → (k : ℕ) → k < d .modules
-      → placeOf (r .places) k ≡ laid (widthOf d) (heightOf d) slots (root d) (corner 0 0) s k
+  pub ok : r .ok ≡ goesFor d slots s
+  pub places : So (r .ok) → (k : ℕ) → k < d .modules → placeOf (r .places) k ≡ laidFor d slots s k
   pub chip : So (r .ok) → PlacesOn (widthOf d) (heightOf d) (d .modules) (r .places)
 
 -- what rows out asks: places of so many modules on the largest chip, and "four bytes" lent for each

@@ -14,20 +14,16 @@ use Rattle.rules.specs.declared.Edit.{Edit}
 use Rattle.rules.specs.declared.Refusal.{Refusal}
 use Rattle.rules.specs.declared.Reply.{Reply}
 use Rattle.rules.specs.declared.Reply.the-variants.{Done, Refused}
-use Rattle.rules.specs.Chip.{corner}
 use Rattle.rules.specs.Placement.{Placement}
 use Rattle.rules.specs.Slot.{Empty}
 use Rattle.rules.specs.Choice.{Chosen}
-use Rattle.rules.specs.Design.{valueTest, LawfulDesign, nodes, root, SuitsOf, slotRows, slotsOf, AllStairs, rootSlot, GoesDown, widthOf, heightOf}
+use Rattle.rules.specs.Design.{valueTest, LawfulDesign, nodes, slotRows, slotsOf, AllStairs, rootSlot, GoesDown, widthOf, heightOf}
 use Rattle.rules.specs.Edit.{namesPlace}
-use Rattle.rules.specs.Check.{isSuited}
-use Rattle.rules.proofs.Test.{goesDown}
+use Rattle.rules.proofs.Test.{goesFor}
 use Rattle.rules.specs.Service.{Enough, workOf, rowsOf}
 use Rattle.rules.proofs.Searching.{know}
-use Rattle.rules.proofs.Nodes.{lawful-tree}
 use Rattle.rules.proofs.Choosing.{chooses}
-use Rattle.rules.proofs.Descending.{laid-down, down-laid}
-use Rattle.rules.proofs.Floorplans.{suited-decides}
+use Rattle.rules.proofs.Floorplans.{laid-goes, goes-laid}
 use Rattle.rules.proofs.Stairs.{stairs-or-not}
 
 -- write, list, plan, place and check: the design's own tests, then the room lent
@@ -70,10 +66,7 @@ pub data Placing (d : Design) (slots : ℕ → Corner → ℕ → ℕ) : Type 0 
 -- from a shape of the root one goes down, or not
 goes-or-not : (d : Design) → LawfulDesign d → (slots : ℕ → Corner → ℕ → ℕ) (s : Shape) → ((p : Placement) × GoesDown d slots s p) ⊎ ((p : Placement) → GoesDown d slots s p → ⊥)
 goes-or-not d l slots s =
-    let W = widthOf d in let H = heightOf d in
-    ⊎-elim (λ t. inl (_, laid-down W H (SuitsOf d) slots (isSuited d) (suited-decides d) (root d) (lawful-tree d l .once) (corner 0 0) s t))
-    (λ f. inr (λ p z. f (down-laid W H (SuitsOf d) slots (isSuited d) (suited-decides d) (root d) (lawful-tree d l .once) (corner 0 0) s p z .0)))
-    (know (goesDown W H (isSuited d) slots (root d) (corner 0 0) s))
+    ⊎-elim (λ t. inl (_, laid-goes d l slots s t)) (λ f. inr (λ p z. f (goes-laid d l slots s p z .0))) (know (goesFor d slots s))
 
 pub placing : (d : Design) → LawfulDesign d → (slots : ℕ → Corner → ℕ → ℕ) → Placing d slots
 placing d l slots = ⊎-elim

@@ -16,7 +16,7 @@ use Rattle.rules.specs.declared.Refusal.the-variants.{NoSuchEdit}
 use Rattle.rules.specs.declared.Reply.the-variants.{Done, Refused}
 use Rattle.rules.specs.declared.Handed.{Handed}
 use Rattle.rules.specs.Slot.{PastKept}
-use Rattle.rules.specs.Design.{Sized, LawfulDesign, nodeAt, nodes, SuitsOf, slotsOf, OwnLists, widthOf, heightOf, slotRows}
+use Rattle.rules.specs.Design.{Sized, LawfulDesign, nodeAt, nodes, ListsOf, slotsOf, OwnLists, widthOf, heightOf, slotRows}
 use Rattle.rules.specs.Edit.{namesPlace, changed, EditedLists}
 use Rattle.rules.specs.Reply.{answer, plannedAnswer}
 use Rattle.rules.specs.Service.{Edits, workOf}
@@ -148,7 +148,7 @@ own-kept S k from start d work t = let own = t .own in record {
   granted = λ e r after x f. let y = k .edit d e work after r x in
       ⊎-elim (λ g. rw (g .answer) (one-change d (own .lawful) (y .sized) e (g .names))) (λ u. absurd (not-granted u f)) (one-edit d e work after r own y);
   fresh = λ before listed r x h. let (_, p, l) = k .list d before listed r x .done (own .lawful) h in
-      same-lists (widthOf d) (heightOf d) (slotRows d) (SuitsOf d) (nodeAt d) (nodes d) work listed (own .bytes) (rw (p .length) h) (own .lists) l;
+      same-lists (widthOf d) (heightOf d) (slotRows d) (ListsOf d) (nodeAt d) (nodes d) work listed (own .bytes) (rw (p .length) h) (own .lists) l;
   off = λ e r after x f t c h on o j b. let y = k .edit d e work after r x in
       ⊎-elim (λ g. g .lists .off t c h (on-more-rows (every-row d) on) (rw (g .answer) at o) j b) (λ u. absurd (not-granted u f)) (one-edit d e work after r own y);
   good = own-good d work (own .lists);

@@ -16,7 +16,7 @@ use Rattle.rules.specs.Chip.{corner, right, top}
 use Rattle.rules.specs.Tree.{has, position}
 use Rattle.rules.specs.Placement.{Placement, box}
 use Rattle.rules.specs.Choice.{rowsOut}
-use Rattle.rules.specs.Design.{LawfulDesign, LawfulPlacement, nodeAt, nodes, root, SuitsOf, slotsOf, rootSlot, OwnLists, widthOf, heightOf}
+use Rattle.rules.specs.Design.{LawfulDesign, LawfulPlacement, nodeAt, nodes, root, SuitsOf, givenFor, slotsOf, rootSlot, OwnLists, widthOf, heightOf}
 use Rattle.rules.specs.Check.{fromRows}
 use Rattle.rules.specs.Reply.{plainly, plannedAnswer}
 use Rattle.rules.specs.Service.{Lists, Plans, Places, Enough, workOf, rowsOf}
@@ -93,7 +93,7 @@ module _ (d : Design) (before rows after rows' : List ℕ) (r : Planned) (x : Pl
       (a' ∙ sym a, b' ∙ sym b))
       (λ n. let (s, ch, (p, down, f)) = n in let (a, b) = x .done h s p ch down in
       let (a', b') = z .done lent st s p (chosen-agree W (rootSlot d (slotsOf d after)) (rootSlot d (slotsOf d work)) root-same s ch)
-      (down-agree W H (SuitsOf d) (slotsOf d after) (slotsOf d work) (root d) (λ u q. same (position u) (part-node d (h .lawful) u q .0)) (corner 0 0) (corner-zero d (h .lawful)) s p down) in
+      (down-agree W H (SuitsOf d) (givenFor d) (slotsOf d after) (slotsOf d work) (root d) (λ u q. same (position u) (part-node d (h .lawful) u q .0)) (corner 0 0) (corner-zero d (h .lawful)) s p down) in
       (a' ∙ sym a, b' ∙ sym b))
       (planned d (h .lawful) (slotsOf d after) o)
 

@@ -17,18 +17,21 @@ use Rattle.rules.specs.declared.Reply.{Reply}
 use Rattle.rules.specs.declared.Handed.{Handed}
 use Rattle.rules.specs.declared.Written.{Written}
 use Rattle.rules.specs.declared.Planned.{Planned}
-use Rattle.rules.specs.Search.{least, count, total}
-use Rattle.rules.specs.Chip.{OnChip, corner, shape, rectangle, column, columnOf, coversBlock, heldBetween, holds}
+use Rattle.rules.specs.Search.{any, least, count, total}
+use Rattle.rules.specs.Chip.{corner, shape, rectangle, column, columnOf, coversBlock, heldBetween}
 use Rattle.rules.specs.Tree.{spans, stands, has, joined, added, standing}
-use Rattle.rules.specs.Shape.{Realizes, ShapeAt, Listed}
+use Rattle.rules.specs.Shape.{ShapeAt, Listed}
 use Rattle.rules.specs.Slot.{slot, Stores}
-use Rattle.rules.specs.Design.{needAt, tokenAt, SuitsOf, root, nodeAt, slotsOf, LawfulDesign, slotRows}
+use Rattle.rules.specs.Design.{needAt, tokenAt, ListsOf, root, nodeAt, slotsOf, LawfulDesign, slotRows}
 use Rattle.rules.specs.Edit.{other, changed, changedNode}
 use Rattle.rules.specs.Bytes.{padded, numberBytes, needBytes, rowBytes, designBytes}
 use Rattle.rules.specs.Reply.{answer, writtenAnswer, plannedAnswer}
 use Rattle.rules.specs.Service.{Enough, workOf}
 use Rattle.rules.specs.Bench.{OneOf, Says, D, need}
+use Rattle.rules.proofs.Test.{suitsRoom, parted, fits}
 use Rattle.rules.proofs.Searching.{absurd-so}
+use Rattle.rules.proofs.Fitting.{realizes-fits}
+use Rattle.rules.proofs.Suiting.{design-decides}
 use Rattle.rules.proofs.Changing.{edit-lawful}
 use Rattle.rules.proofs.Same.{names-same}
 use Rattle.promises.specs.Services.{Services}
@@ -38,19 +41,11 @@ use Rattle.promises.proofs.Inputs.{D-lawful, turned, grown, turned-list
 use Rattle.promises.proofs.RefutePlans.{never-empty}
 
 -- The root of D at (0, 0) has the shape (4, 3), and that of D with its cut turned has (3, 6) alone listed: no bytes are good lists of both.
-D-shape : ShapeAt 5 6 (SuitsOf D) (nodeAt D 2) (corner 0 0) (shape 4 3)
-unfolding D slotRows padded Realizes stands has joined added standing columnOf coversBlock heldBetween holds column count total
-D-shape =
-    let on : (x w : ℕ) → 1 ≤ w → x + w ≤ 5 → OnChip 5 6 (rectangle x 0 w 3) = λ x w a b. record { wide = a; high = omega arith; columns = b; rows = omega arith } in (
-      rectangle 0 0 2 3,
-      rectangle 2 0 2 3,
-      (on 0 2 (omega arith) (omega arith), record { clbs = omega arith; rams = omega arith; multipliers = omega arith }),
-      (on 2 2 (omega arith) (omega arith), record { clbs = omega arith; rams = omega arith; multipliers = omega arith }),
-      omega arith,
-      refl,
-    )
+D-shape : ShapeAt 5 6 (ListsOf D) (nodeAt D 2) (corner 0 0) (shape 4 3)
+unfolding D padded stands has joined added standing columnOf coversBlock heldBetween column count total suitsRoom any parted fits
+D-shape = realizes-fits (design-decides D) (nodeAt D 2) (rectangle 0 0 4 3) .1 refl
 
-turned-listed : (o : Shape) → Listed 5 6 (SuitsOf turned) (nodeAt turned 2) (corner 0 0) o → o .h .0 ≡ 6
+turned-listed : (o : Shape) → Listed 5 6 (ListsOf turned) (nodeAt turned 2) (corner 0 0) o → o .h .0 ≡ 6
 unfolding D slotRows changed OneOf Says
 turned-listed o l = go (turned-list o .0 l)
   where

@@ -15,35 +15,35 @@ use Rattle.rules.specs.declared.Handed.{Handed}
 use Rattle.rules.specs.declared.Written.{Written}
 use Rattle.rules.specs.declared.Planned.{Planned}
 use Rattle.rules.specs.Search.{all, count, total}
-use Rattle.rules.specs.Chip.{OnChip, corner, shape, column, columnOf, coversBlock, heldBetween, holds}
+use Rattle.rules.specs.Chip.{corner, shape, rectangle, column, columnOf, coversBlock, heldBetween}
 use Rattle.rules.specs.Tree.{has, stands, joined, added, standing}
 use Rattle.rules.specs.Placement.{Follows, furthest, box, area}
-use Rattle.rules.specs.Shape.{Realizes, ShapeAt}
+use Rattle.rules.specs.Shape.{ShapeAt}
 use Rattle.rules.specs.Slot.{slot, Stores, CornerOn}
-use Rattle.rules.specs.Design.{needAt, SuitsOf, root, nodeAt, slotsOf, OwnLists, slotRows}
+use Rattle.rules.specs.Design.{needAt, ListsOf, root, nodeAt, slotsOf, OwnLists, slotRows}
 use Rattle.rules.specs.Edit.{changed}
 use Rattle.rules.specs.Bytes.{AreBytes, padded, numberBytes, needBytes, rowBytes, designBytes}
 use Rattle.rules.specs.Check.{fromRows}
 use Rattle.rules.specs.Reply.{plainly, answer, writtenAnswer, plannedAnswer}
 use Rattle.rules.specs.Service.{Enough}
 use Rattle.rules.specs.Bench.{D, need, bytesEnding}
-use Rattle.rules.proofs.Searching.{all-iff, ltb-iff}
+use Rattle.rules.proofs.Test.{suitsRoom, fits}
+use Rattle.rules.proofs.Searching.{absurd-so, all-iff, ltb-iff}
+use Rattle.rules.proofs.Fitting.{realizes-fits}
+use Rattle.rules.proofs.Suiting.{design-decides}
 use Rattle.promises.specs.Services.{Services}
 use Rattle.promises.specs.Demand2.{GoodList, GoodLists, GoodPlan, Demand2}
 use Rattle.promises.proofs.Inputs.{D-lawful, D-enough, edited-enough, turned, starved, names-turned, names-starved, starved-none, printed, printed-lawful, half-block, over-the-side, exchanged, one-cell-shared}
 use Rattle.promises.proofs.RefuteAnswers.{half-not-suited}
 
--- module 0 of D at (0, 0): the node's shapes there have (2, 3) among them, and not (1, 1)
-leaf-shape : ShapeAt 5 6 (SuitsOf D) (nodeAt D 0) (corner 0 0) (shape 2 3)
-unfolding D slotRows padded Realizes stands has joined added standing columnOf coversBlock heldBetween holds column count total
-leaf-shape = (
-  record { wide = omega arith; high = omega arith; columns = omega arith; rows = omega arith },
-  record { clbs = omega arith; rams = omega arith; multipliers = omega arith },
-)
+-- module 0 of D at (0, 0): the node's shapes there have (2, 3) among them, and not (1, 1), by the leaf's test
+leaf-shape : ShapeAt 5 6 (ListsOf D) (nodeAt D 0) (corner 0 0) (shape 2 3)
+unfolding D padded stands has joined added standing columnOf coversBlock heldBetween column count total suitsRoom fits
+leaf-shape = realizes-fits (design-decides D) (nodeAt D 0) (rectangle 0 0 2 3) .1 refl
 
-no-leaf-shape : ShapeAt 5 6 (SuitsOf D) (nodeAt D 0) (corner 0 0) (shape 1 1) → ⊥
-unfolding D slotRows padded Realizes stands has joined added standing columnOf coversBlock heldBetween holds column count total
-no-leaf-shape z = let h = z .1 .rams in omega arith
+no-leaf-shape : ShapeAt 5 6 (ListsOf D) (nodeAt D 0) (corner 0 0) (shape 1 1) → ⊥
+unfolding D padded stands has joined added standing columnOf coversBlock heldBetween column count total suitsRoom fits
+no-leaf-shape z = absurd-so (realizes-fits (design-decides D) (nodeAt D 0) (rectangle 0 0 1 1) .0 z)
 
 -- the slot of module 0's leaf at (0, 0), after a good listing of D
 abbrev leafSlot : List ℕ → ℕ → ℕ

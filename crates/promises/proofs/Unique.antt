@@ -11,7 +11,7 @@ use Rattle.rules.specs.declared.Reply.{Reply}
 use Rattle.rules.specs.declared.Handed.{Handed}
 use Rattle.rules.specs.declared.Written.{Written}
 use Rattle.rules.specs.declared.Planned.{Planned}
-use Rattle.rules.specs.Design.{nodeAt, nodes, root, SuitsOf, slotRows, slotsOf, widthOf, heightOf}
+use Rattle.rules.specs.Design.{nodeAt, nodes, root, ListsOf, slotRows, slotsOf, widthOf, heightOf}
 use Rattle.rules.specs.Edit.{changed, changedNode}
 use Rattle.rules.specs.Bytes.{designBytes}
 use Rattle.rules.specs.Service.{Reads, Writes, Lists, Plans, Places, Edits, Checks, Enough, workOf, rowsOf}
@@ -52,7 +52,7 @@ lists-once d before after after' r r' x y = go (one-lent d (workOf d) before)
     go (short l h) = both (x .short l h) (y .short l h)
     go (enough l h) =
         let (a, k, o) = x .done l h in let (a', k', o') = y .done l h in
-        (a ∙ sym a', listed-once (widthOf d) (heightOf d) (slotRows d) (SuitsOf d) (nodeAt d) (nodes d) before after after' k k' o o')
+        (a ∙ sym a', listed-once (widthOf d) (heightOf d) (slotRows d) (ListsOf d) (nodeAt d) (nodes d) before after after' k k' o o')
 
 pub plans-once : (d : Design) (before rows after after' rows' rows'' : List ℕ) (r r' : Planned)
     → Plans d before rows r after rows' → Plans d before rows r' after' rows'' → (r ≡ r') × (after ≡ after') × (rows' ≡ rows'')
@@ -63,7 +63,7 @@ plans-once d before rows after after' rows' rows'' r r' x y = go (two-lent d bef
     go (short l h) = all-three (x .short l h) (y .short l h)
     go (enough l h) =
         let (k, o) = x .listed h in let (k', o') = y .listed h in
-        let e = listed-once (widthOf d) (heightOf d) (slotRows d) (SuitsOf d) (nodeAt d) (nodes d) before after after' k k' o o' in
+        let e = listed-once (widthOf d) (heightOf d) (slotRows d) (ListsOf d) (nodeAt d) (nodes d) before after after' k k' o o' in
         let y' : Plans d before rows r' after rows'' = rw (← e) at y in
         let (a, b) = ⊎-elim (λ z. both (x .none h (z .0)) (y' .none h (z .0)))
         (λ z. let (s, ch, (p, down, _)) = z in both (x .done h s p ch down) (y' .done h s p ch down)) (planned d l (slotsOf d after) o) in (a, e, b)
@@ -94,7 +94,7 @@ edits-once d e before after after' r r' x y = go (editing d e before)
         let (a, m) = x .done l n h st in let (a', m') = y .done l n h st in
         let d' = changed d e in let l' = edit-lawful d l e n in let k = edit-keeps d e .nodes-same in (
           a ∙ sym a',
-          relisted-once (widthOf d) (heightOf d) (slotRows d) (every-row d) (no-other-row d) (SuitsOf d') (nodeAt d') (nodes d) (changedNode d e) (root d')
+          relisted-once (widthOf d) (heightOf d) (slotRows d) (every-row d) (no-other-row d) (ListsOf d') (nodeAt d') (nodes d) (changedNode d e) (root d')
               (λ u q. let (b, i) = part-node d' l' u q in (rw k at b, i)) before after after' m m'
               (λ t b. let b' : t < nodes d' = rw k b in (node-part d' l' t b', node-position (node-at d' l' t b'))),
         )

@@ -16,7 +16,7 @@ use Rattle.rules.specs.Chip.{OnChip}
 use Rattle.rules.specs.Placement.{Placement, Follows, Covers, box, area}
 use Rattle.rules.specs.Shape.{ShapeAt, Dominates}
 use Rattle.rules.specs.Slot.{Stores, CornerOn}
-use Rattle.rules.specs.Design.{LawfulDesign, LawfulPlacement, SameDesign, SuitsOf, nodes, nodeAt, root, slotsOf, OwnLists, widthOf, heightOf}
+use Rattle.rules.specs.Design.{LawfulDesign, LawfulPlacement, SameDesign, SuitsOf, ListsOf, nodes, nodeAt, root, slotsOf, OwnLists, widthOf, heightOf}
 use Rattle.rules.specs.Bytes.{AreBytes, designBytes}
 use Rattle.rules.specs.Check.{fromRows}
 use Rattle.rules.specs.Reply.{Answer, plainly, answer, writtenAnswer, plannedAnswer}
@@ -26,12 +26,12 @@ use Rattle.promises.specs.Services.{Services}
 -- "Each list is complete, sorted and free of dominated shapes": the slot of node t at a corner holds shapes of the node there; for each such
 -- shape one that dominates it; "widths rising, heights falling"; and none that another dominates.
 pub record GoodList (d : Design) (t : ℕ) (c : Corner) (bytes : ℕ → ℕ) : Type 0 where
-  pub shapes : (s : Shape) → Stores (widthOf d) bytes s → ShapeAt (widthOf d) (heightOf d) (SuitsOf d) (nodeAt d t) c s
-  pub complete : (s : Shape) → ShapeAt (widthOf d) (heightOf d) (SuitsOf d) (nodeAt d t) c s
+  pub shapes : (s : Shape) → Stores (widthOf d) bytes s → ShapeAt (widthOf d) (heightOf d) (ListsOf d) (nodeAt d t) c s
+  pub complete : (s : Shape) → ShapeAt (widthOf d) (heightOf d) (ListsOf d) (nodeAt d t) c s
       → (o : Shape) × Stores (widthOf d) bytes o × Dominates o s
   pub sorted : (s o : Shape) → Stores (widthOf d) bytes s → Stores (widthOf d) bytes o → s .w .0 < o .w .0 → o .h .0 < s .h .0
   pub undominated : (s o : Shape) → Stores (widthOf d) bytes s
-      → ShapeAt (widthOf d) (heightOf d) (SuitsOf d) (nodeAt d t) c o → Dominates o s → o ≡ s
+      → ShapeAt (widthOf d) (heightOf d) (ListsOf d) (nodeAt d t) c o → Dominates o s → o ≡ s
 
 -- of every node, at every corner of the chip
 abbrev pub GoodLists : Design → List ℕ → Type 0

@@ -26,8 +26,8 @@ pub agree-on : {W H R : ℕ} {g g' : Corner → ℕ → ℕ} → H ≤ R → Agr
 agree-on h e = record { at = λ c on. e .at c (on-more-rows h on) }
 
 -- lists at the corners that have slots are lists at every corner of the chip, where every row of it has slots
-pub all-rows : {W H R : ℕ} → H ≤ R → (S : ℕ → Rectangle → Type 0) (g : Corner → ℕ → ℕ) (t : Tree) → ListsAt W H R S g t → ListsAt W H H S g t
-all-rows every S g t l c on = l c (on-more-rows every on)
+pub all-rows : {W H R : ℕ} → H ≤ R → (Lists : ℕ → Rectangle → Type 0) (g : Corner → ℕ → ℕ) (t : Tree) → ListsAt W H R Lists g t → ListsAt W H H Lists g t
+all-rows every Lists g t l c on = l c (on-more-rows every on)
 
 pub agree-back : {W H : ℕ} {g g' : Corner → ℕ → ℕ} → Agree W H g g' → Agree W H g' g
 agree-back e = record { at = λ c on j h. sym (e .at c on j h) }
@@ -61,15 +61,15 @@ module _ (W H : ℕ) (d : Direction) where
     only = λ o' p. z .only o' (pair-agree (agree-back e) (agree-back f) c on s o' box p);
   }
 
-pub down-agree : (W H : ℕ) (S : ℕ → Rectangle → Type 0) (slots slots' : ℕ → Corner → ℕ → ℕ) (t : Tree)
+pub down-agree : (W H : ℕ) (S : ℕ → Rectangle → Type 0) (given : ℕ → Rectangle → Rectangle) (slots slots' : ℕ → Corner → ℕ → ℕ) (t : Tree)
     → ((u : Tree) → Part u t → Agree W H (slots (position u)) (slots' (position u))) → (c : Corner) → CornerOn W H c → (s : Shape) (p : Placement)
-    → Down W H S slots t c s p → Down W H S slots' t c s p
+    → Down W H S given slots t c s p → Down W H S given slots' t c s p
 unfolding Down
-down-agree W H S slots slots' (leaf t k) e c on s p z = z
-down-agree W H S slots slots' (cut t d l r) e c on box p (s, o, x, y, z) = (
+down-agree W H S given slots slots' (leaf t k) e c on s p z = z
+down-agree W H S given slots slots' (cut t d l r) e c on box p (s, o, x, y, z) = (
   s,
   o,
   taken-agree W H d (e l (in-left whole)) (e r (in-right whole)) c on box s o x,
-  down-agree W H S slots slots' l (λ u q. e u (in-left q)) c on s p y,
-  down-agree W H S slots slots' r (λ u q. e u (in-right q)) (beside d c s) (x .pair .corner) o p z,
+  down-agree W H S given slots slots' l (λ u q. e u (in-left q)) c on s p y,
+  down-agree W H S given slots slots' r (λ u q. e u (in-right q)) (beside d c s) (x .pair .corner) o p z,
 )

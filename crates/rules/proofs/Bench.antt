@@ -17,22 +17,20 @@ use Rattle.rules.specs.declared.Design.{Design}
 use Rattle.rules.specs.Chip.{corner, shape}
 use Rattle.rules.specs.Tree.{Tree, leaf, cut, position}
 use Rattle.rules.specs.Slot.{Stores, ListsAt, CornerOn}
-use Rattle.rules.specs.Design.{nodes, nodeAt, root, rootSlot, SuitsOf, OwnLists, widthOf, heightOf}
-use Rattle.rules.specs.Check.{isSuited}
+use Rattle.rules.specs.Design.{nodes, nodeAt, root, rootSlot, SuitsOf, ListsOf, givenFor, OwnLists, widthOf, heightOf}
 use Rattle.rules.proofs.Test.{stored}
 use Rattle.rules.specs.Bench.{Example, lists, contains, slotIs, pairsTo, plansTo, hasNone, reads, OneOf, PairsTo, Says, AllSay, table}
 use Rattle.rules.proofs.Searching.{test-iffs}
 use Rattle.rules.proofs.Standing.{Part}
-use Rattle.rules.proofs.Nodes.{lawful-tree, part-node, last-node}
+use Rattle.rules.proofs.Nodes.{part-node, last-node}
 use Rattle.rules.proofs.Suiting.{design-decides}
 use Rattle.rules.proofs.Listing.{same-shape, same-list, list-bytes, list-unique}
 use Rattle.rules.proofs.Pairing.{pairings-bytes}
 use Rattle.rules.proofs.Limits.{every-row}
 use Rattle.rules.proofs.Agreeing.{Agree, all-rows, agree-back, chosen-agree, paired-agree, down-agree}
-use Rattle.rules.proofs.Descending.{down-laid}
 use Rattle.rules.proofs.Choosing.{chooses-none, chooses-this}
-use Rattle.rules.proofs.Floorplans.{goes-down, no-placement, corner-zero, suited-decides}
-use Rattle.rules.proofs.Figures.{widthsRise, tab, pick, bytesOf, leafTest, treeList, pairedList, computed, Pairs, Computes, AllCompute, table-computes}
+use Rattle.rules.proofs.Floorplans.{goes-laid, goes-down, no-placement, corner-zero}
+use Rattle.rules.proofs.Figures.{widthsRise, tab, pick, bytesOf, treeList, pairedList, computed, Pairs, Computes, AllCompute, table-computes}
 
 -- the list of a function's values
 length-tab : {A : Type 0} (n : ℕ) (f : ℕ → A) → length (tab n f) ≡ n
@@ -87,16 +85,16 @@ stores-one-of W ss t s = (
 
 module _ (d : Design) where
   computed-own : OwnLists d (computed d)
-  unfolding computed treeList leafTest
+  unfolding computed treeList
   computed-own t h c on = list-bytes (design-decides d) (nodeAt d t) c
 
   -- whatever slots are the tree's lists agree with the computed ones
-  lists-agree : (t : Tree) (g : Corner → ℕ → ℕ) → ListsAt (widthOf d) (heightOf d) (heightOf d) (SuitsOf d) g t → Agree (widthOf d) (heightOf d) (treeList d t) g
-  unfolding treeList leafTest
+  lists-agree : (t : Tree) (g : Corner → ℕ → ℕ) → ListsAt (widthOf d) (heightOf d) (heightOf d) (ListsOf d) g t → Agree (widthOf d) (heightOf d) (treeList d t) g
+  unfolding treeList
   lists-agree t g l = record { at = λ c on. list-unique (widthOf d) (treeList d t c) (g c) (list-bytes (design-decides d) t c) (l c on) }
 
   lists-row : (c : Corner) (ss : List Shape) → Computes (lists d c ss) → Says (lists d c ss)
-  unfolding Computes Says treeList leafTest
+  unfolding Computes Says treeList
   lists-row c ss (t, e) s =
       let W = widthOf d in let l = list-bytes (design-decides d) (root d) c in
       let same : (j : ℕ) → j < W → treeList d (root d) c j ≡ bytesOf ss j = λ j h. tab-same W (treeList d (root d) c) _ 0 e j h ∙ tab-at W (bytesOf ss) 0 j h in
@@ -104,7 +102,7 @@ module _ (d : Design) where
       (λ z. o .0 (m .1 z), λ z. m .0 (o .1 z))
 
   slot-row : (start : ℕ) (bytes : List ℕ) → Computes (slotIs d start bytes) → Says (slotIs d start bytes)
-  unfolding Computes Says treeList leafTest
+  unfolding Computes Says treeList
   slot-row start bytes (a, e) = (
     a,
     same-list (widthOf d) (treeList d (root d) (corner 0 0)) (λ j. getD bytes j 0) (tab-same (widthOf d) _ bytes 0 e) (λ s. (λ z. z, λ z. z))
@@ -126,7 +124,7 @@ module _ (d : Design) where
       let n = simp test-iffs at m in
       let W = widthOf d in let H = heightOf d in
       let node-agrees : (t : ℕ) → t < nodes d → Agree W H (computed d t) (slots t) =
-      λ t b. lists-agree (nodeAt d t) (slots t) (all-rows (every-row d) (SuitsOf d) (slots t) (nodeAt d t) (own t b)) in
+      λ t b. lists-agree (nodeAt d t) (slots t) (all-rows (every-row d) (ListsOf d) (slots t) (nodeAt d t) (own t b)) in
       let agree : (u : Tree) → Part u (root d) → Agree W H (computed d (position u)) (slots (position u)) =
       λ u q. let (b, i) = part-node d lawful u q in node-agrees (position u) b in
       let root-agree : (j : ℕ) → j < W → rootSlot d (computed d) j ≡ rootSlot d slots j = λ j k.
@@ -135,9 +133,9 @@ module _ (d : Design) where
         ch,
         goes-down d lawful slots own s (ch .stored),
         λ p z k b.
-            let l = down-laid W H (SuitsOf d) (computed d) (isSuited d) (suited-decides d) (root d) (lawful-tree d lawful .once) (corner 0 0) s p
-            (down-agree W H (SuitsOf d) slots (computed d) (root d) (λ u q. agree-back (agree u q)) (corner 0 0) (corner-zero d lawful) s p z) .1 in
-            l k (lawful-tree d lawful .modules k .1 (omega arith)) ∙ tab-same (length rs) _ rs _ e k b,
+            let l = goes-laid d lawful (computed d) s p
+            (down-agree W H (SuitsOf d) (givenFor d) slots (computed d) (root d) (λ u q. agree-back (agree u q)) (corner 0 0) (corner-zero d lawful) s p z) .1 in
+            l k (omega arith) ∙ tab-same (length rs) _ rs _ e k b,
       )
 
   none-row : Computes (hasNone d) → Says (hasNone d)

@@ -15,10 +15,10 @@ use Rattle.rules.specs.Search.{any, all, least, count, total}
 use Rattle.rules.specs.Chip.{corner, column, columnOf, coversBlock, heldBetween, holds}
 use Rattle.rules.specs.Tree.{Tree, leaf, cut, has, stands, joined, added, standing}
 use Rattle.rules.specs.Slot.{slotStart}
-use Rattle.rules.specs.Design.{needAt, nodes, nodeAt, root, valueTest, withinLimits, lawfulChip, inRange, lawfulNeed, rootSlot, widthOf, heightOf, slotRows}
+use Rattle.rules.specs.Design.{givenFor, nodes, nodeAt, root, valueTest, withinLimits, lawfulChip, inRange, lawfulNeed, rootSlot, widthOf, heightOf, slotRows}
 use Rattle.rules.specs.Edit.{changed}
 use Rattle.rules.specs.Bytes.{designAt, checkedAt, numberAt, secondByte, thirdByte, rowAt, needOf, tokensAt, padded}
-use Rattle.rules.proofs.Test.{grid, Test, suitsRoom, parted, fits, lowest, listByte, stored, sideBySide, pairTest, bestWidth, meets, leftIndex, rightIndex, laid, merge}
+use Rattle.rules.proofs.Test.{grid, suitsRoom, parted, fits, lowest, listByte, stored, sideBySide, pairTest, bestWidth, meets, leftIndex, rightIndex, laidFor, laid, merge, leafTest}
 use Rattle.rules.specs.Bench.{Example, lists, contains, slotIs, pairsTo, plansTo, hasNone, reads, E, D, four, table}
 
 -- the first n values of a function, as a list
@@ -38,10 +38,7 @@ unfoldable pub widthsRise : ℕ → ℕ → List Shape → Bool
 widthsRise W w [] = true
 widthsRise W w (s ∷ ss) = ltb w (s .w .0) && leb (s .w .0) W && ltb 0 (s .h .0) && widthsRise W (s .w .0) ss
 
--- a design's leaf tests and its computed lists
-unfoldable pub leafTest : Design → ℕ → Test
-leafTest d k = suitsRoom (d .chip) (needAt d k)
-
+-- a design's computed lists
 unfoldable pub treeList : Design → Tree → Corner → ℕ → ℕ
 treeList d t c = listByte (heightOf d) (fits (leafTest d) t) (c .x .0) (c .y .0)
 
@@ -63,7 +60,7 @@ Computes (slotIs d start bytes) = (slotStart (widthOf d) (slotRows d) (nodes d -
 Computes (pairsTo d bytes) = (valueTest d ≡ Done) × Pairs d bytes (root d)
 Computes (plansTo d s rs) =
     (valueTest d ≡ Done) × (bestWidth (rootSlot d (computed d)) (widthOf d) ≡ s .w .0) × (rootSlot d (computed d) (s .w .0 - 1) ≡ s .h .0)
-    × (leb 1 (s .w .0) && leb (length rs) (d .modules) ≡ true) × (tab (length rs) (laid (widthOf d) (heightOf d) (computed d) (root d) (corner 0 0) s) ≡ rs)
+    × (leb 1 (s .w .0) && leb (length rs) (d .modules) ≡ true) × (tab (length rs) (laidFor d (computed d) s) ≡ rs)
 Computes (hasNone d) = (valueTest d ≡ Done) × (bestWidth (rootSlot d (computed d)) (widthOf d) ≡ 0)
 Computes (reads s t) = designAt s ≡ t
 
@@ -73,11 +70,11 @@ AllCompute (e ∷ es) = Computes e × AllCompute es
 
 -- the test, computed
 pub table-computes : AllCompute table
-unfolding AllCompute Computes table tab bytesOf widthsRise leafTest treeList pairedList computed Pairs
+unfolding AllCompute Computes table tab bytesOf widthsRise treeList pairedList computed Pairs
     E D four padded changed
     any all least count total column columnOf coversBlock heldBetween holds has stands joined added standing
     valueTest withinLimits lawfulChip inRange lawfulNeed designAt checkedAt numberAt secondByte thirdByte rowAt needOf tokensAt
-    slotRows suitsRoom parted fits lowest listByte stored sideBySide pairTest bestWidth meets leftIndex rightIndex laid merge
+    slotRows givenFor suitsRoom parted fits lowest listByte stored sideBySide pairTest bestWidth meets leftIndex rightIndex laid merge
 table-computes = (
   (refl, refl),
   (

@@ -26,10 +26,10 @@ same-sides r o ex ey er et =
 pub room-right : (a b : ℕ) → a ≤ b → a + (b - a) ≡ b
 room-right a b h = omega arith
 
--- The test F decides what a leaf lists, S, and grows.
-pub record Decides (W H : ℕ) (S : ℕ → Rectangle → Type 0) (F : ℕ → Test) : Type 0 where
+-- The test F decides which rooms a leaf lists, and grows.
+pub record Decides (W H : ℕ) (Lists : ℕ → Rectangle → Type 0) (F : ℕ → Test) : Type 0 where
   pub growing : (k : ℕ) → Growing W H (F k)
-  pub decides : (k : ℕ) (r : Rectangle) → (OnChip W H r × S k r) ↔ So (F k (left r) (bottom r) (right r) (top r))
+  pub decides : (k : ℕ) (r : Rectangle) → (OnChip W H r × Lists k r) ↔ So (F k (left r) (bottom r) (right r) (top r))
 
 pub fits-growing : {W H : ℕ} (F : ℕ → Test) → ((k : ℕ) → Growing W H (F k)) → (t : Tree) → Growing W H (fits F t)
 unfolding fits

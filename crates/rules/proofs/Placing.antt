@@ -1,6 +1,6 @@
 -- A room has place for a tree exactly if a lawful placement of it lies there. One way the cut's line is drawn where the left
--- child's rectangles end; the other way the two halves' placements are merged, since no module stands twice.
--- Assumes nothing.
+-- child's rectangles end; the other way each module is given a rectangle in its room, and the two halves' placements are
+-- merged, since no module stands twice. Assumes nothing.
 use mathlib.Core.Path.{_≡_, refl, sym}
 use mathlib.Core.Logic.{_⊎_, inl, inr}
 use mathlib.Core.Bool.{Bool, true, false, So, _||_}
@@ -14,11 +14,11 @@ use Rattle.rules.specs.declared.Rectangle.{Rectangle}
 use Rattle.rules.specs.Chip.{OnChip, left, right, bottom, top}
 use Rattle.rules.specs.Tree.{Tree, leaf, cut, has}
 use Rattle.rules.specs.Placement.{Placement, begins, ends, Follows, Lawful, furthest}
-use Rattle.rules.proofs.Test.{Test, across, fits, merge}
+use Rattle.rules.proofs.Test.{Test, across, room, fits, merge}
 use Rattle.rules.proofs.Searching.{or-iff}
 use Rattle.rules.proofs.Rooms.{Growing, joined-in, joined-out}
 use Rattle.rules.proofs.Standing.{Once}
-use Rattle.rules.proofs.Fitting.{fits-growing}
+use Rattle.rules.proofs.Fitting.{Decides, room-right, fits-growing}
 
 -- a rectangle in a room
 pub record Inside (a c b d : ℕ) (r : Rectangle) : Type 0 where
@@ -32,13 +32,31 @@ pub record PlacedIn (W H : ℕ) (Suits : ℕ → Rectangle → Type 0) (t : Tree
   pub lawful : Lawful W H Suits t p
   pub inside : (k : ℕ) → So (has t k) → Inside a c b d (p k)
 
--- What the laws ask of suiting. A room that contains a suitable rectangle passes the leaf's test; in a room that passes, one is given.
-pub record Leaves (W H : ℕ) (Suits : ℕ → Rectangle → Type 0) (F : ℕ → Test) (give : ℕ → ℕ → ℕ → ℕ → ℕ → Rectangle) : Type 0 where
+-- The rectangle that a module is given for a room on the chip is on the chip and in the room, whatever the room: a stranger's
+-- stairs may hold one in which nothing suits.
+abbrev pub GivesInside : ℕ → ℕ → (ℕ → Rectangle → Rectangle) → Type 0
+GivesInside W H given =
+    (k : ℕ) (r : Rectangle) → OnChip W H r → OnChip W H (given k r) × Inside (left r) (bottom r) (right r) (top r) (given k r)
+
+-- What the laws ask of suiting and of what is given: the leaf's test grows, so a room that contains a suitable rectangle passes
+-- it as the rectangle does; and for a room that passes a suitable rectangle is given, in the room.
+pub record Leaves (W H : ℕ) (Suits : ℕ → Rectangle → Type 0) (F : ℕ → Test) (given : ℕ → Rectangle → Rectangle) : Type 0 where
   pub growing : (k : ℕ) → Growing W H (F k)
   pub passes : (k : ℕ) (r : Rectangle) → OnChip W H r → Suits k r → So (F k (left r) (bottom r) (right r) (top r))
-  pub onChip : (k a c b d : ℕ) → So (F k a c b d) → OnChip W H (give k a c b d)
-  pub suits : (k a c b d : ℕ) → So (F k a c b d) → Suits k (give k a c b d)
-  pub inside : (k a c b d : ℕ) → So (F k a c b d) → Inside a c b d (give k a c b d)
+  pub suits : (k : ℕ) (r : Rectangle) → So (F k (left r) (bottom r) (right r) (top r)) → Suits k (given k r)
+  pub inside : GivesInside W H given
+
+-- where a module is given its whole room, that lies in the room, and the laws ask of a leaf what its test decides
+pub whole-inside : (W H : ℕ) → GivesInside W H (λ k r. r)
+whole-inside W H k r on = (on, record { left = le-refl _; bottom = le-refl _; right = le-refl _; top = le-refl _ })
+
+pub plain-leaves : {W H : ℕ} {S : ℕ → Rectangle → Type 0} {F : ℕ → Test} → Decides W H S F → Leaves W H S F (λ k r. r)
+plain-leaves {W} {H} dec = record {
+  growing = dec .growing;
+  passes = λ k r o s. dec .decides k r .0 (o, s);
+  suits = λ k r t. dec .decides k r .1 t .1;
+  inside = whole-inside W H;
+}
 
 -- the furthest side of a tree's rectangles
 pub furthest-within : (side : Rectangle → ℕ) (t : Tree) (p : Placement) (n : ℕ) → ((k : ℕ) → So (has t k) → side (p k) ≤ n) → furthest side t p ≤ n
@@ -187,7 +205,7 @@ module _ {W H : ℕ} {Suits : ℕ → Rectangle → Type 0} where
       in-room Vertical q z = z .right
       in-room Horizontal q z = z .top
 
-  module _ {F : ℕ → Test} {give : ℕ → ℕ → ℕ → ℕ → ℕ → Rectangle} (laws : Leaves W H Suits F give) where
+  module _ {F : ℕ → Test} {given : ℕ → Rectangle → Rectangle} (laws : Leaves W H Suits F given) where
     -- where a lawful placement lies in a room on the chip, the room has place for the tree
     pub placed-fits : (t : Tree) (p : Placement) (a c b e : ℕ) → PlacedIn W H Suits t p a c b e → b ≤ W → e ≤ H → So (fits F t a c b e)
     unfolding fits Follows has
@@ -204,13 +222,17 @@ module _ {W H : ℕ} {Suits : ℕ → Rectangle → Type 0} where
     -- where the room has place for the tree, a lawful placement lies in it
     pub fits-placed : (t : Tree) → Once t → (a c b e : ℕ) → So (fits F t a c b e) → (p : Placement) × PlacedIn W H Suits t p a c b e
     unfolding fits Once Follows has
-    fits-placed (leaf t k) o a c b e s = (
-      λ _. give k a c b e,
-      record {
-        lawful = record { onChip = λ j _. laws .onChip k a c b e s; suits = λ j u. rw (eqb-true j k u) (laws .suits k a c b e s); follows = tt };
-        inside = λ j _. laws .inside k a c b e s;
-      },
-    )
+    fits-placed (leaf t k) o a c b e s =
+        let g = laws .growing k .solid a c b e s in let r = room a c b e in
+        let er : right r ≡ b = room-right a b (omega arith) in let et : top r ≡ e = room-right c e (omega arith) in
+        let (on, within) = laws .inside k r (record { wide = omega arith; high = omega arith; columns = omega arith; rows = omega arith }) in
+        let fine = laws .suits k r (rw (er, et) s) in (
+          λ _. given k r,
+          record {
+            lawful = record { onChip = λ j _. on; suits = λ j u. rw (eqb-true j k u) fine; follows = tt };
+            inside = λ j _. rw (er, et) at within;
+          },
+        )
     fits-placed (cut t d l r) o a c b e s =
         let (m, u, v) = joined-out d (fits F l) (fits F r) a c b e s in
         let (p, x) = fits-placed l (o .0) a c (across d m b) (across d e m) u in

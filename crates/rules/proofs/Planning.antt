@@ -18,28 +18,13 @@ use Rattle.rules.specs.Tree.{Tree, leaf, cut, has}
 use Rattle.rules.specs.Placement.{Placement, Follows, Lawful, Covers, ShareNoCell, begins, ends, box, area}
 use Rattle.rules.specs.Shape.{Realizes, ShapeAt, Listed}
 use Rattle.rules.specs.Slot.{IsListOf, Stair}
-use Rattle.rules.proofs.Test.{Test, room}
+use Rattle.rules.proofs.Test.{Test}
 use Rattle.rules.proofs.Searching.{or-iff}
 use Rattle.rules.proofs.Standing.{Once}
-use Rattle.rules.proofs.Fitting.{Decides, realizes-fits, fits-growing, room-right}
+use Rattle.rules.proofs.Fitting.{Decides, realizes-fits, fits-growing}
 use Rattle.rules.proofs.Placing.{PlacedIn, Leaves, placed-fits, fits-placed, furthest-within, furthest-reaches}
 use Rattle.rules.proofs.Listing.{list-complete, list-sorted}
 use Rattle.rules.proofs.Choosing.{byte-stores}
-
--- where a module's rectangle is its whole room, the laws ask of a leaf what its test decides
-pub plain-leaves : {W H : ℕ} {S : ℕ → Rectangle → Type 0} {F : ℕ → Test} → Decides W H S F → Leaves W H S F (λ k. room)
-plain-leaves {W} {H} {S} {F} dec = record {
-  growing = dec .growing;
-  passes = λ k r o s. dec .decides k r .0 (o, s);
-  onChip = λ k a c b d t. given k a c b d t .0;
-  suits = λ k a c b d t. given k a c b d t .1;
-  inside = λ k a c b d t. let z = dec .growing k .solid a c b d t in record { left = omega arith; bottom = omega arith; right = omega arith; top = omega arith };
-}
-  where
-    given : (k a c b d : ℕ) → So (F k a c b d) → OnChip W H (room a c b d) × S k (room a c b d)
-    given k a c b d t =
-        let z = dec .growing k .solid a c b d t in
-        dec .decides k (room a c b d) .1 (rw (room-right a b (omega arith), room-right c d (omega arith)) t)
 
 -- rectangles that follow a tree share no cell
 pub follow-apart : (t : Tree) (p : Placement) → Follows t p → ShareNoCell t p
@@ -59,15 +44,15 @@ follow-apart (cut t d l r) p (fl, fr, kept) i j x y a b u v =
     go (inl s) (inr w) f g = absurd (crossed d (p i) (p j) (kept i j s w) u v)
     go (inr s) (inl w) f g = absurd (crossed d (p j) (p i) (kept j i w s) v u)
 
-module _ {W H : ℕ} {S : ℕ → Rectangle → Type 0} {F : ℕ → Test} (dec : Decides W H S F) where
+module _ {W H : ℕ} {Lists : ℕ → Rectangle → Type 0} {F : ℕ → Test} (dec : Decides W H Lists F) where
   -- every shape of a tree is on the chip
-  realizes-on-chip : (t : Tree) (r : Rectangle) → Realizes W H S t r → OnChip W H r
+  realizes-on-chip : (t : Tree) (r : Rectangle) → Realizes W H Lists t r → OnChip W H r
   realizes-on-chip t r z =
       let s = fits-growing F (dec .growing) t .solid (left r) (bottom r) (right r) (top r) (realizes-fits dec t r .0 z) in
       record { wide = omega arith; high = omega arith; columns = s .2; rows = s .3 }
 
   -- a list is a stair
-  pub list-stair : (t : Tree) (c : Corner) (g : ℕ → ℕ) → IsListOf W g (ShapeAt W H S t c) → Stair W H c g
+  pub list-stair : (t : Tree) (c : Corner) (g : ℕ → ℕ) → IsListOf W g (ShapeAt W H Lists t c) → Stair W H c g
   list-stair t c g l = record {
     fall = λ i j h k p q. list-sorted W g l (shape (suc i) (g i)) (shape (suc j) (g j)) (byte-stores W g i (omega arith) p) (byte-stores W g j k q) (omega arith);
     rows = λ j h. low j h (decLt 0 (g j));
@@ -85,21 +70,22 @@ module _ {W H : ℕ} {S : ℕ → Rectangle → Type 0} {F : ℕ → Test} (dec 
       narrow j h k (yes p) = let o = on j h p .columns in absurd (omega arith)
       narrow j h k (no p) = omega arith
 
-  module _ (t : Tree) where
+  -- what is listed, and what is placed: the one law record ties the two
+  module _ {Suits : ℕ → Rectangle → Type 0} {given : ℕ → Rectangle → Rectangle} (laws : Leaves W H Suits F given) (t : Tree) where
     -- "a room holds a shape exactly if a placement of that part of the tree lies in it and follows it"
     pub realizes-placed : Once t → (r : Rectangle) → right r ≤ W → top r ≤ H
-        → Realizes W H S t r ↔ ((p : Placement) × PlacedIn W H S t p (left r) (bottom r) (right r) (top r))
+        → Realizes W H Lists t r ↔ ((p : Placement) × PlacedIn W H Suits t p (left r) (bottom r) (right r) (top r))
     realizes-placed once r h k = (
-      λ z. fits-placed (plain-leaves dec) t once _ _ _ _ (realizes-fits dec t r .0 z),
-      λ z. realizes-fits dec t r .1 (placed-fits (plain-leaves dec) t (z .0) _ _ _ _ (z .1) h k),
+      λ z. fits-placed laws t once _ _ _ _ (realizes-fits dec t r .0 z),
+      λ z. realizes-fits dec t r .1 (placed-fits laws t (z .0) _ _ _ _ (z .1) h k),
     )
 
     -- a lawful placement's own box is a shape of the tree at (0, 0)
-    box-shape : (p : Placement) → Lawful W H S t p → ShapeAt W H S t (corner 0 0) (box t p)
+    box-shape : (p : Placement) → Lawful W H Suits t p → ShapeAt W H Lists t (corner 0 0) (box t p)
     box-shape p z =
         let w = furthest-within right t p W (λ k i. z .onChip k i .columns) in let h = furthest-within top t p H (λ k i. z .onChip k i .rows) in
         realizes-fits dec t (record { corner = corner 0 0; shape = box t p }) .1
-        (placed-fits (plain-leaves dec) t p _ _ _ _
+        (placed-fits laws t p _ _ _ _
         (record {
           lawful = z;
           inside = λ k i. let a = furthest-reaches right t p k i in let b = furthest-reaches top t p k i in
@@ -107,7 +93,7 @@ module _ {W H : ℕ} {S : ℕ → Rectangle → Type 0} {F : ℕ → Test} (dec 
         }) (omega arith) (omega arith))
 
     -- "no placement" exactly if the root's list at (0, 0) is empty
-    pub none-listed : Once t → ((p : Placement) → Lawful W H S t p → ⊥) ↔ ((s : Shape) → Listed W H S t (corner 0 0) s → ⊥)
+    pub none-listed : Once t → ((p : Placement) → Lawful W H Suits t p → ⊥) ↔ ((s : Shape) → Listed W H Lists t (corner 0 0) s → ⊥)
     none-listed once = (
       λ f s z. let o = realizes-on-chip t _ (z .is) in
           f (realizes-placed once _ (o .columns) (o .rows) .0 (z .is) .0) (realizes-placed once _ (o .columns) (o .rows) .0 (z .is) .1 .lawful),
@@ -115,12 +101,12 @@ module _ {W H : ℕ} {S : ℕ → Rectangle → Type 0} {F : ℕ → Test} (dec 
     )
 
     -- no lawful placement has a box of smaller area than the smallest listed shape
-    pub least-box : (s : Shape) → ((o : Shape) → Listed W H S t (corner 0 0) o → area s ≤ area o) → (p : Placement) → Lawful W H S t p → area s ≤ area (box t p)
+    pub least-box : (s : Shape) → ((o : Shape) → Listed W H Lists t (corner 0 0) o → area s ≤ area o) → (p : Placement) → Lawful W H Suits t p → area s ≤ area (box t p)
     least-box s f p z =
         let (o, l, d) = list-complete dec t (corner 0 0) (box t p) (box-shape p z) in le-trans (f o l) (mul-le-mul (d .wide) (d .high))
 
     -- a placement in a listed shape at (0, 0) fills it
-    pub box-is : (s : Shape) (p : Placement) → Listed W H S t (corner 0 0) s → PlacedIn W H S t p 0 0 (0 + s .w .0) (0 + s .h .0) → box t p ≡ s
+    pub box-is : (s : Shape) (p : Placement) → Listed W H Lists t (corner 0 0) s → PlacedIn W H Suits t p 0 0 (0 + s .w .0) (0 + s .h .0) → box t p ≡ s
     box-is s p l z =
         let a = furthest-within right t p (0 + s .w .0) (λ k i. z .inside k i .right) in let b = furthest-within top t p (0 + s .h .0) (λ k i. z .inside k i .top) in
         l .alone (box t p) (box-shape p (z .lawful)) (record { wide = omega arith; high = omega arith })

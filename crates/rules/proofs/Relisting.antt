@@ -16,13 +16,13 @@ use Rattle.rules.specs.Tree.{Tree, leaf, cut, has, spans, position}
 use Rattle.rules.specs.Shape.{Realizes, ShapeAt}
 use Rattle.rules.specs.Slot.{slot, CornerOn, IsListOf, FullLists, ListsAt}
 use Rattle.rules.specs.Edit.{namesPlace, changed, changedNode, Relists, Relisted, EditedLists}
-use Rattle.rules.specs.Design.{LawfulDesign, slotRows, HasSlots, OwnLists, slotsOf, SuitsOf, nodeAt, nodes, root, widthOf, heightOf}
+use Rattle.rules.specs.Design.{LawfulDesign, slotRows, HasSlots, OwnLists, slotsOf, ListsOf, nodeAt, nodes, root, widthOf, heightOf}
 use Rattle.rules.proofs.Test.{Test}
 use Rattle.rules.proofs.Searching.{know, or-iff, eqb-iff}
 use Rattle.rules.proofs.Standing.{Part, whole, in-left, in-right, node-position}
 use Rattle.rules.proofs.Nodes.{part-node, node-part, node-at}
 use Rattle.rules.proofs.Fitting.{Decides}
-use Rattle.rules.proofs.Suiting.{design-decides}
+use Rattle.rules.proofs.Suiting.{design-decides, need-lists}
 use Rattle.rules.proofs.Listing.{same-list}
 use Rattle.rules.proofs.Pairing.{pairings-list-the-cut}
 use Rattle.rules.proofs.Alike.{Alike, alike-off, alike-spans}
@@ -30,7 +30,7 @@ use Rattle.rules.proofs.Changing.{edit-lawful, edit-nodes, edit-keeps, 
 use Rattle.rules.proofs.Limits.{every-row}
 use Rattle.rules.proofs.Agreeing.{all-rows}
 
--- a tree's shapes hang on what suits its own modules
+-- a tree's shapes hang on what its own leaves list
 pub realizes-same : (W H : ℕ) {S S' : ℕ → Rectangle → Type 0} (t : Tree) → ((k : ℕ) (r : Rectangle) → So (has t k) → S k r → S' k r)
     → (r : Rectangle) → Realizes W H S t r → Realizes W H S' t r
 unfolding Realizes has
@@ -82,11 +82,11 @@ module _ {W H R : ℕ} (every : H ≤ R) (S : ℕ → Rectangle → Type 0) {S' 
 
 -- off the way the two designs' shapes are the same
 off-same : (d d' : Design) (p : ℕ) (u u' : Tree) → d' .chip ≡ d .chip → Alike p d d' u u' → (So (spans u' p) → ⊥)
-    → (c : Corner) (s : Shape) → ShapeAt (widthOf d) (heightOf d) (SuitsOf d) u c s ↔ ShapeAt (widthOf d) (heightOf d) (SuitsOf d') u' c s
+    → (c : Corner) (s : Shape) → ShapeAt (widthOf d) (heightOf d) (ListsOf d) u c s ↔ ShapeAt (widthOf d) (heightOf d) (ListsOf d') u' c s
 off-same d d' p u u' ec a o c s =
     let (e, f) = alike-off a (λ i. o (rw (alike-spans a p) at i)) in (
-      λ z. rw (← e) (realizes-same (widthOf d) (heightOf d) u (λ k r i x. rw (ec, ← f k i) x) _ z),
-      λ z. realizes-same (widthOf d) (heightOf d) u (λ k r i x. rw (← ec, f k i) x) _ (rw (← e) at z),
+      λ z. rw (← e) (realizes-same (widthOf d) (heightOf d) u (λ k r i. need-lists d d' k (sym ec) (f k i) r) _ z),
+      λ z. realizes-same (widthOf d) (heightOf d) u (λ k r i. need-lists d' d k ec (sym (f k i)) r) _ (rw (← e) at z),
     )
 
 -- relisting the way from an edited node to the root turns own lists of the old design into own lists of the new one
@@ -96,7 +96,7 @@ unfolding changed
 relisted-own d e lawful names work work' own rel =
     let d' = changed d e in let p = changedNode d e in let lawful' = edit-lawful d lawful e names in let k = edit-keeps d e in
     let kw : widthOf d' ≡ widthOf d = ap (λ C. C .width .0) (k .chip) in let kh : heightOf d' ≡ heightOf d = ap (λ C. C .height .0) (k .chip) in let kr : slotRows d' ≡ slotRows d = edit-rows d e in
-    let lists = relisted-lists (every-row d) (SuitsOf d) (rw (kw, kh) at (design-decides d')) (nodeAt d) (nodeAt d') (nodes d) p (root d')
+    let lists = relisted-lists (every-row d) (ListsOf d) (rw (kw, kh) at (design-decides d')) (nodeAt d) (nodeAt d') (nodes d) p (root d')
     (λ u q. let (h, r) = part-node d' lawful' u q in (rw (k .nodes-same) at h, r))
     (λ t h o. off-same d d' p (nodeAt d t) (nodeAt d' t) (k .chip) (edit-nodes d lawful e names t h) o) work work' own rel in
     rw (kw, kh, kr) (λ t h c on. rw (node-position (node-at d' lawful' t h)) at (lists (nodeAt d' t) (node-part d' lawful' t h) c on))
@@ -104,19 +104,19 @@ relisted-own d e lawful names work work' own rel =
 -- where every node is listed from what it is relisted from, the bytes are the design's own lists
 pub relists-own : (d : Design) → LawfulDesign d → (work : List ℕ)
     → ((t : ℕ) → t < nodes d → (c : Corner) → HasSlots d c
-    → IsListOf (widthOf d) (slotsOf d work t c) (Relists (widthOf d) (heightOf d) (slotRows d) (SuitsOf d) work (nodeAt d t) c))
+    → IsListOf (widthOf d) (slotsOf d work t c) (Relists (widthOf d) (heightOf d) (slotRows d) (ListsOf d) work (nodeAt d t) c))
     → OwnLists d (slotsOf d work)
 relists-own d lawful work made t h c on = rw (node-position (node-at d lawful t h)) at (go (nodeAt d t) (node-part d lawful t h) c on)
   where
     at : (u : Tree) → Part u (root d) → (c : Corner) → HasSlots d c
-        → IsListOf (widthOf d) (slotsOf d work (position u) c) (Relists (widthOf d) (heightOf d) (slotRows d) (SuitsOf d) work u c)
+        → IsListOf (widthOf d) (slotsOf d work (position u) c) (Relists (widthOf d) (heightOf d) (slotRows d) (ListsOf d) work u c)
     at u q c on = let (b, e) = part-node d lawful u q in rw (← e) at (made (position u) b c on)
 
-    on-chip : (u : Tree) → ListsAt (widthOf d) (heightOf d) (slotRows d) (SuitsOf d) (slotsOf d work (position u)) u
-        → ListsAt (widthOf d) (heightOf d) (heightOf d) (SuitsOf d) (slotsOf d work (position u)) u
-    on-chip u = all-rows (every-row d) (SuitsOf d) (slotsOf d work (position u)) u
+    on-chip : (u : Tree) → ListsAt (widthOf d) (heightOf d) (slotRows d) (ListsOf d) (slotsOf d work (position u)) u
+        → ListsAt (widthOf d) (heightOf d) (heightOf d) (ListsOf d) (slotsOf d work (position u)) u
+    on-chip u = all-rows (every-row d) (ListsOf d) (slotsOf d work (position u)) u
 
-    go : (u : Tree) → Part u (root d) → ListsAt (widthOf d) (heightOf d) (slotRows d) (SuitsOf d) (slotsOf d work (position u)) u
+    go : (u : Tree) → Part u (root d) → ListsAt (widthOf d) (heightOf d) (slotRows d) (ListsOf d) (slotsOf d work (position u)) u
     go (leaf t k) q = at (leaf t k) q
     go (cut t e l r) q = let x = on-chip l (go l (part-left q)) in let y = on-chip r (go r (part-right q)) in λ c on s.
         let m = at (cut t e l r) q c on s in

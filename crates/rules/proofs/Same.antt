@@ -21,7 +21,7 @@ use Rattle.rules.specs.Chip.{kindAt, column, columnOf, holds, SameChip}
 use Rattle.rules.specs.Tree.{numberOf, isCut, isModule, tokenOf, last}
 use Rattle.rules.specs.Placement.{Placement}
 use Rattle.rules.specs.Slot.{workNeeded}
-use Rattle.rules.specs.Design.{Sized, mostModules, noNeed, lawfulKind, needAt, tokenAt, nodes, lawfulNeed, lawfulChip, withinLimits, SuitsOf, standingOf, nodeAt, root, treeTest, valueTest, LawfulDesign, SameDesign, widthOf, heightOf, slotRows}
+use Rattle.rules.specs.Design.{Sized, mostModules, noNeed, lawfulKind, needAt, tokenAt, nodes, lawfulNeed, lawfulChip, withinLimits, SuitsOf, ListsOf, givenFor, standingOf, nodeAt, root, treeTest, valueTest, LawfulDesign, SameDesign, widthOf, heightOf, slotRows}
 use Rattle.rules.specs.Edit.{turned, namesPlace, changed, changedNode}
 use Rattle.rules.specs.Bytes.{numberBytes, needBytes, designBytes, designAt}
 use Rattle.rules.specs.Check.{fromRows, keptAt, isOn, isSuited, judgedCuts, judgedRows, afterTests, verdict}
@@ -135,6 +135,15 @@ module _ {d e : Design} (z : SameDesign d e) where
 
   pub suits-same : (k : ℕ) → k < d .modules → (r : Rectangle) → SuitsOf d k r → SuitsOf e k r
   suits-same k h r s = rw (← holds-same r, ← z .needs k h) s
+
+  -- and so what the leaves list, and what the modules are given
+  pub lists-same : (k : ℕ) → k < d .modules → (r : Rectangle) → ListsOf d k r → ListsOf e k r
+  unfolding ListsOf
+  lists-same k h r s = rw (← holds-same r, ← z .needs k h) s
+
+  pub given-same : (k : ℕ) → k < d .modules → (r : Rectangle) → givenFor d k r ≡ givenFor e k r
+  unfolding givenFor
+  given-same k h r = refl
 
   -- the trees
   token-same : Below (nodes d) (tokenAt d) (tokenAt e)

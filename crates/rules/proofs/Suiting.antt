@@ -1,5 +1,6 @@
 -- A larger rectangle on the chip suits if a part of it does, since it covers every block that the part covers; and the test of a
--- room decides what 01 says of a rectangle. Assumes nothing.
+-- room decides what 01 says of a rectangle. So a design's leaves obey what the laws ask of them. Assumes nothing.
+use mathlib.Core.Path.{_≡_}
 use mathlib.Core.Logic.{_↔_}
 use mathlib.Core.Bool.{So}
 use Prim.Native.Nat.{ℕ, _≤_}
@@ -8,13 +9,14 @@ use Rattle.rules.specs.declared.Need.{Need}
 use Rattle.rules.specs.declared.Rectangle.{Rectangle}
 use Rattle.rules.specs.declared.Design.{Design}
 use Rattle.rules.specs.declared.Chip.{Chip}
-use Rattle.rules.specs.Design.{needAt, SuitsOf, widthOf, heightOf}
+use Rattle.rules.specs.Design.{needAt, SuitsOf, ListsOf, givenFor, widthOf, heightOf}
 use Rattle.rules.specs.Check.{isAtMost}
 use Rattle.rules.specs.Chip.{OnChip, AtMost, Suits, column, holds, heldBetween, coversBlock, left, right, bottom, top}
-use Rattle.rules.proofs.Test.{suitsRoom}
+use Rattle.rules.proofs.Test.{suitsRoom, leafTest}
 use Rattle.rules.proofs.Searching.{test-iffs, count-le, total-le}
 use Rattle.rules.proofs.Rooms.{Growing}
 use Rattle.rules.proofs.Fitting.{Decides}
+use Rattle.rules.proofs.Placing.{Leaves, plain-leaves}
 
 held-grows : (C : Chip) (k a c b d a' c' b' d' : ℕ) → a' ≤ a → c' ≤ c → b ≤ b' → d ≤ d' → heldBetween C k a c b d ≤ heldBetween C k a' c' b' d'
 unfolding heldBetween coversBlock
@@ -53,9 +55,20 @@ at-most-iff n m = (
   λ s. simp test-iffs ((s .clbs, s .rams), s .multipliers),
 )
 
--- what a design's leaves list is decided by the test of their rooms
-pub design-decides : (d : Design) → Decides (widthOf d) (heightOf d) (SuitsOf d) (λ k. suitsRoom (d .chip) (needAt d k))
+-- All that the laws are told of a design's leaves: the test of their rooms decides what they list; and what the modules are given
+-- for rooms that pass it suits, and lies in the room.
+pub design-decides : (d : Design) → Decides (widthOf d) (heightOf d) (ListsOf d) (leafTest d)
+unfolding ListsOf
 design-decides d = record { growing = λ k. suits-growing (d .chip) (needAt d k); decides = λ k. suits-decided (d .chip) (needAt d k) }
+
+pub design-leaves : (d : Design) → Leaves (widthOf d) (heightOf d) (SuitsOf d) (leafTest d) (givenFor d)
+unfolding ListsOf givenFor
+design-leaves d = plain-leaves (design-decides d)
+
+-- what a leaf lists hangs on the chip and its module's need alone
+pub need-lists : (d e : Design) (k : ℕ) → d .chip ≡ e .chip → needAt d k ≡ needAt e k → (r : Rectangle) → ListsOf d k r → ListsOf e k r
+unfolding ListsOf
+need-lists d e k c n r x = rw (← c, ← n) x
 
 -- "a larger rectangle on the chip suits if a part of it does"
 pub larger-suits : (C : Chip) (n : Need) (part whole : Rectangle) → OnChip (C .width .0) (C .height .0) part → Suits C n part

@@ -10,11 +10,14 @@ use Rattle.rules.specs.declared.Shape.{Shape}
 use Rattle.rules.specs.declared.Rectangle.{Rectangle}
 use Rattle.rules.specs.declared.Need.{Need}
 use Rattle.rules.specs.declared.Chip.{Chip}
+use Rattle.rules.specs.declared.Design.{Design}
 use Rattle.rules.specs.Search.{any, all, least}
 use Rattle.rules.specs.Chip.{corner, shape, rectangle, heldBetween}
 use Rattle.rules.specs.Tree.{Tree, leaf, cut, has, position}
 use Rattle.rules.specs.Placement.{Placement}
 use Rattle.rules.specs.Choice.{beside, pairing}
+use Rattle.rules.specs.Design.{needAt, givenFor, root, widthOf, heightOf}
+use Rattle.rules.specs.Check.{isSuited}
 
 abbrev pub Test : Type 0
 Test = ℕ → ℕ → ℕ → ℕ → Bool
@@ -55,6 +58,10 @@ suitsRoom C n a c b d =
     ltb a b && ltb c d && leb b (C .width .0) && leb d (C .height .0)
     && leb (n .clbs) (heldBetween C 0 a c b d) && leb (n .rams) (heldBetween C 1 a c b d)
     && leb (n .multipliers) (heldBetween C 2 a c b d)
+
+-- the tests of a design's leaves: whether a room is on the chip and listed
+abbrev pub leafTest : Design → ℕ → Test
+leafTest d k = suitsRoom (d .chip) (needAt d k)
 
 -- a line parts the room into one that passes left and one that passes right
 unfoldable pub parted : Test → Test → Test
@@ -128,7 +135,7 @@ hasPair W H d lefts rights c whole = any W (λ i. any W (meets W H d lefts right
 unfoldable pub merge : Tree → Placement → Placement → Placement
 merge l p q k = elim (has l k) [ true ↦ p k | false ↦ q k ]
 
--- going down finds a pair at every cut and suits every leaf; and the rectangles that it gives
+-- going down finds a pair at every cut, and every leaf's room passes a test; and the rooms that it comes to
 unfoldable pub goesDown : ℕ → ℕ → (ℕ → Rectangle → Bool) → (ℕ → Corner → ℕ → ℕ) → Tree → Corner → Shape → Bool
 goesDown W H suits slots (leaf t k) c s = suits k (record { corner = c; shape = s })
 goesDown W H suits slots (cut t d l r) c whole =
@@ -142,6 +149,21 @@ laid W H slots (cut t d l r) c whole =
     let s = leftShape W H d (slots (position l)) (slots (position r)) c whole in
     let o = rightShape W H d (slots (position l)) (slots (position r)) c whole in
     merge l (laid W H slots l c s) (laid W H slots r (beside d c s) o)
+
+-- a room passes if the rectangle given for it suits; the rectangles given for rooms
+abbrev pub givenSuits : (ℕ → Rectangle → Bool) → (ℕ → Rectangle → Rectangle) → ℕ → Rectangle → Bool
+givenSuits suits given k r = suits k (given k r)
+
+abbrev pub givenIn : (ℕ → Rectangle → Rectangle) → Placement → Placement
+givenIn given rooms k = given k (rooms k)
+
+-- of a design: going down from a shape of the root at (0, 0) succeeds, and the rectangles that it then gives
+abbrev pub goesFor : Design → (ℕ → Corner → ℕ → ℕ) → Shape → Bool
+goesFor d slots s =
+    goesDown (widthOf d) (heightOf d) (givenSuits (isSuited d) (givenFor d)) slots (root d) (corner 0 0) s
+
+abbrev pub laidFor : Design → (ℕ → Corner → ℕ → ℕ) → Shape → Placement
+laidFor d slots s = givenIn (givenFor d) (laid (widthOf d) (heightOf d) slots (root d) (corner 0 0) s)
 
 -- a slot is a stair; and so are all slots of the first n nodes
 unfoldable pub isStair : ℕ → ℕ → Corner → (ℕ → ℕ) → Bool

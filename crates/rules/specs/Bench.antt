@@ -19,7 +19,7 @@ use Rattle.rules.specs.Shape.{ShapeAt, Listed}
 use Rattle.rules.specs.Slot.{slotStart, ListsAt, IsListOf}
 use Rattle.rules.specs.Choice.{Chosen}
 use Rattle.rules.specs.Edit.{Paired, changed}
-use Rattle.rules.specs.Design.{nodes, root, SuitsOf, LawfulPlacement, OwnLists, rootSlot, GoesDown, widthOf, heightOf, slotRows}
+use Rattle.rules.specs.Design.{nodes, root, ListsOf, LawfulPlacement, OwnLists, rootSlot, GoesDown, widthOf, heightOf, slotRows}
 use Rattle.rules.specs.Bytes.{Took, took, refuse, designAt, chipFrom, designFrom}
 
 pub data Example : Type 0 where
@@ -46,14 +46,15 @@ abbrev pub PairsTo : Design → List ℕ → Tree → Type 0
 PairsTo d bytes (leaf t k) = ⊥
 PairsTo d bytes (cut t k l r) =
     let W = widthOf d in let H = heightOf d in (lefts rights : Corner → ℕ → ℕ)
-    → ListsAt W H H (SuitsOf d) lefts l → ListsAt W H H (SuitsOf d) rights r → IsListOf W (λ j. getD bytes j 0) (Paired W H k lefts rights (corner 0 0))
+    → ListsAt W H H (ListsOf d) lefts l → ListsAt W H H (ListsOf d) rights r
+    → IsListOf W (λ j. getD bytes j 0) (Paired W H k lefts rights (corner 0 0))
 
 unfoldable pub Says : Example → Type 0
-Says (lists d c shapes) = (s : Shape) → Listed (widthOf d) (heightOf d) (SuitsOf d) (root d) c s ↔ OneOf s shapes
+Says (lists d c shapes) = (s : Shape) → Listed (widthOf d) (heightOf d) (ListsOf d) (root d) c s ↔ OneOf s shapes
 Says (contains d r n) = holds (d .chip) r ≡ n
 Says (slotIs d start bytes) =
     (slotStart (widthOf d) (slotRows d) (nodes d - 1) (corner 0 0) ≡ start)
-    × IsListOf (widthOf d) (λ j. getD bytes j 0) (ShapeAt (widthOf d) (heightOf d) (SuitsOf d) (root d) (corner 0 0))
+    × IsListOf (widthOf d) (λ j. getD bytes j 0) (ShapeAt (widthOf d) (heightOf d) (ListsOf d) (root d) (corner 0 0))
 Says (pairsTo d bytes) = PairsTo d bytes (root d)
 Says (plansTo d s rs) =
     (slots : ℕ → Corner → ℕ → ℕ) → OwnLists d slots → Chosen (widthOf d) (rootSlot d slots) s

@@ -42,13 +42,15 @@ pub record Taken (W H : ℕ) (d : Direction) (lefts rights : Corner → ℕ → 
   pub first : (s' o' : Shape) → Pair W H d lefts rights c s' o' whole → s .w .0 ≤ s' .w .0
   pub only : (o' : Shape) → Pair W H d lefts rights c s o' whole → o .w .0 ≤ o' .w .0
 
--- Going down from a shape at a corner, over the nodes' slots, gives these rectangles. "A leaf's rectangle is its shape at its
--- corner", and it has to suit.
-unfoldable pub Down : ℕ → ℕ → (ℕ → Rectangle → Type 0) → (ℕ → Corner → ℕ → ℕ) → Tree → Corner → Shape → Placement → Type 0
-Down W H Suits slots (leaf t k) c s p = Suits k (p k) × (p k ≡ record { corner = c; shape = s })
-Down W H Suits slots (cut t d l r) c whole p =
+-- Going down from a shape at a corner, over the nodes' slots, gives these rectangles. "A leaf's rectangle is its shape
+-- at its corner": that is its room, and which rectangle the module is given there is a parameter (`givenFor` in
+-- Design.antt). What is given has to suit.
+unfoldable pub Down : ℕ → ℕ → (ℕ → Rectangle → Type 0) → (ℕ → Rectangle → Rectangle) → (ℕ → Corner → ℕ → ℕ)
+    → Tree → Corner → Shape → Placement → Type 0
+Down W H Suits given slots (leaf t k) c s p = Suits k (p k) × (p k ≡ given k (record { corner = c; shape = s }))
+Down W H Suits given slots (cut t d l r) c whole p =
     (s : Shape) × (o : Shape) × Taken W H d (slots (position l)) (slots (position r)) c whole s o
-    × Down W H Suits slots l c s p × Down W H Suits slots r (beside d c s) o p
+    × Down W H Suits given slots l c s p × Down W H Suits given slots r (beside d c s) o p
 
 -- "Rows out: four bytes x, y, w, h for each module, in module order"
 abbrev pub rowOf : Rectangle → List ℕ

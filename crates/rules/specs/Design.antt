@@ -106,11 +106,21 @@ unfoldable pub withinLimits : Design → Bool
 withinLimits d =
     lawfulChip (d .chip) && inRange 1 mostModules (d .modules) && all (d .modules) (λ k. lawfulNeed (needAt d k))
 
--- The suiting and the tree of a design.
+-- What suits a design's modules: "A rectangle suits it if it holds at least that many of each."
 abbrev pub SuitsOf : Design → ℕ → Rectangle → Type 0
 SuitsOf d k r = Suits (d .chip) (needAt d k) r
 
--- what stands after the first n tokens; node t is what then stands last; "the last is the root"
+-- What its leaves list, and what its modules are given. A leaf lists the rooms in which the module can stand, and the
+-- module is given a rectangle in its room. The rules as they are make the two one: a room is listed exactly if it suits
+-- ("whose rectangle from (x, y) is on the chip and suits the need"), and the whole of it is given ("A leaf's rectangle is
+-- its shape at its corner"). No law may use that: the laws are told what proofs/Suiting.antt shows of a design's leaves.
+abbrev pub ListsOf : Design → ℕ → Rectangle → Type 0
+ListsOf d k r = SuitsOf d k r
+
+unfoldable pub givenFor : Design → ℕ → Rectangle → Rectangle
+givenFor d k r = r
+
+-- The tree of a design: what stands after the first n tokens; node t is what then stands last; "the last is the root"
 abbrev pub standingOf : Design → ℕ → Standing
 standingOf d n = standing (d .modules) (tokenAt d) n
 
@@ -140,14 +150,14 @@ abbrev pub AllStairs : Design → (ℕ → Corner → ℕ → ℕ) → Type 0
 AllStairs d slots = Stairs (widthOf d) (heightOf d) (slotRows d) (nodes d) slots
 
 abbrev pub OwnLists : Design → (ℕ → Corner → ℕ → ℕ) → Type 0
-OwnLists d slots = FullLists (widthOf d) (heightOf d) (slotRows d) (SuitsOf d) (nodeAt d) (nodes d) slots
+OwnLists d slots = FullLists (widthOf d) (heightOf d) (slotRows d) (ListsOf d) (nodeAt d) (nodes d) slots
 
 -- going down from a shape of the root at (0, 0)
 abbrev pub rootSlot : Design → (ℕ → Corner → ℕ → ℕ) → ℕ → ℕ
 rootSlot d slots = slots (nodes d - 1) (corner 0 0)
 
 abbrev pub GoesDown : Design → (ℕ → Corner → ℕ → ℕ) → Shape → Placement → Type 0
-GoesDown d slots s p = Down (widthOf d) (heightOf d) (SuitsOf d) slots (root d) (corner 0 0) s p
+GoesDown d slots s p = Down (widthOf d) (heightOf d) (SuitsOf d) (givenFor d) slots (root d) (corner 0 0) s p
 
 -- 5: "token over m+1, module repeated, or cut with fewer than two things standing"; 6: "tokens used up and not exactly one
 -- thing stands"

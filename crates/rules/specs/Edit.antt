@@ -21,7 +21,7 @@ use Rattle.rules.specs.Tree.{Tree, leaf, cut, position, spans, numberOf,
 use Rattle.rules.specs.Shape.{ShapeAt}
 use Rattle.rules.specs.Slot.{slot, workNeeded, CornerOn, IsListOf, PastKept}
 use Rattle.rules.specs.Choice.{Pair}
-use Rattle.rules.specs.Design.{widthOf, heightOf, withNeeds, withTokens, nodes, lawfulNeed, nodeAt, SuitsOf, mostModules, tokenAt, slotRows}
+use Rattle.rules.specs.Design.{widthOf, heightOf, withNeeds, withTokens, nodes, lawfulNeed, nodeAt, ListsOf, mostModules, tokenAt, slotRows}
 
 -- The edit names a module and brings a lawful need, or names a cut; otherwise it is refused with 11.
 unfoldable pub namesPlace : Design → Edit → Bool
@@ -62,13 +62,14 @@ pub record Paired (W H : ℕ) (d : Direction) (lefts rights : Corner → ℕ →
 -- "A changed leaf is relisted from its need. A cut's slot becomes the undominated ones among all pairings": what a node's
 -- slot is the list of, over the bytes as they then stand.
 abbrev pub Relists : ℕ → ℕ → ℕ → (ℕ → Rectangle → Type 0) → List ℕ → Tree → Corner → Shape → Type 0
-Relists W H R Suits work (leaf t k) c = ShapeAt W H Suits (leaf t k) c
-Relists W H R Suits work (cut t d l r) c = Paired W H d (slot W R work (position l)) (slot W R work (position r)) c
+Relists W H R Lists work (leaf t k) c = ShapeAt W H Lists (leaf t k) c
+Relists W H R Lists work (cut t d l r) c = Paired W H d (slot W R work (position l)) (slot W R work (position r)) c
 
 -- "relists the changed node and each node above it": those whose tree spans the changed position. All other bytes stand.
-pub record Relisted (W H R : ℕ) (Suits : ℕ → Rectangle → Type 0) (node : ℕ → Tree) (n at : ℕ) (before after : List ℕ) : Type 0 where
+pub record Relisted (W H R : ℕ) (Lists : ℕ → Rectangle → Type 0) (node : ℕ → Tree) (n at : ℕ) (before after : List ℕ)
+    : Type 0 where
   pub way : (t : ℕ) (c : Corner) → t < n → CornerOn W R c → So (spans (node t) at)
-      → IsListOf W (slot W R after t c) (Relists W H R Suits after (node t) c)
+      → IsListOf W (slot W R after t c) (Relists W H R Lists after (node t) c)
   pub off : (t : ℕ) (c : Corner) → t < n → CornerOn W R c → (So (spans (node t) at) → ⊥)
       → (j : ℕ) → j < W → slot W R after t c j ≡ slot W R before t c j
   pub past : PastKept (workNeeded W R n) before after
@@ -76,4 +77,5 @@ pub record Relisted (W H R : ℕ) (Suits : ℕ → Rectangle → Type 0) (node :
 -- the bytes that an edit leaves for the design that it hands back
 abbrev pub EditedLists : Design → Edit → List ℕ → List ℕ → Type 0
 EditedLists d e =
-    Relisted (widthOf d) (heightOf d) (slotRows d) (SuitsOf (changed d e)) (nodeAt (changed d e)) (nodes d) (changedNode d e)
+    Relisted (widthOf d) (heightOf d) (slotRows d) (ListsOf (changed d e)) (nodeAt (changed d e))
+    (nodes d) (changedNode d e)

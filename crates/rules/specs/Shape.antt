@@ -15,16 +15,18 @@ bounding p q =
     rectangle x y (max (right p) (right q) - x) (max (top p) (top q) - y)
 
 -- "For a leaf, the shapes at corner (x, y) are the (w, h) whose rectangle from (x, y) is on the chip and suits the need."
--- Document 000, definition 2: the realization set of a module.
+-- Document 000, definition 2: the realization set of a module. Which rooms a leaf lists is a parameter (`ListsOf` in
+-- Design.antt), apart from what suits the module.
 -- "For a cut they are the bounding boxes, with lower left corner exactly (x, y), of a shape of each child anywhere on the
 -- chip, the two in the cut's order." Document 000's definition for tree nodes.
 unfoldable pub Realizes : ℕ → ℕ → (ℕ → Rectangle → Type 0) → Tree → Rectangle → Type 0
-Realizes W H Suits (leaf t k) r = OnChip W H r × Suits k r
-Realizes W H Suits (cut t d l r) b =
-    (p : Rectangle) × (q : Rectangle) × Realizes W H Suits l p × Realizes W H Suits r q × (ends d p ≤ begins d q) × (b ≡ bounding p q)
+Realizes W H Lists (leaf t k) r = OnChip W H r × Lists k r
+Realizes W H Lists (cut t d l r) b =
+    (p : Rectangle) × (q : Rectangle) × Realizes W H Lists l p × Realizes W H Lists r q
+    × (ends d p ≤ begins d q) × (b ≡ bounding p q)
 
 abbrev pub ShapeAt : ℕ → ℕ → (ℕ → Rectangle → Type 0) → Tree → Corner → Shape → Type 0
-ShapeAt W H Suits t c s = Realizes W H Suits t (record { corner = c; shape = s })
+ShapeAt W H Lists t c s = Realizes W H Lists t (record { corner = c; shape = s })
 
 -- "A shape dominates another at the same corner if it is no wider and no higher." Document 000, definition 3.
 pub record Dominates (s o : Shape) : Type 0 where
@@ -39,4 +41,4 @@ pub record Undominated (P : Shape → Type 0) (s : Shape) : Type 0 where
 -- "The list holds exactly the shapes that no other dominates." Document 000, definition 4, and the same for tree nodes: the
 -- irreducible realization list.
 abbrev pub Listed : ℕ → ℕ → (ℕ → Rectangle → Type 0) → Tree → Corner → Shape → Type 0
-Listed W H Suits t c = Undominated (ShapeAt W H Suits t c)
+Listed W H Lists t c = Undominated (ShapeAt W H Lists t c)

@@ -47,10 +47,10 @@ IsListOf W bytes P = (s : Shape) → Stores W bytes s ↔ Undominated P s
 
 -- the slots of a tree are its lists, at every corner that has slots; the full lists of the nodes below n
 abbrev pub ListsAt : ℕ → ℕ → ℕ → (ℕ → Rectangle → Type 0) → (Corner → ℕ → ℕ) → Tree → Type 0
-ListsAt W H R Suits slots t = (c : Corner) → CornerOn W R c → IsListOf W (slots c) (ShapeAt W H Suits t c)
+ListsAt W H R Lists slots t = (c : Corner) → CornerOn W R c → IsListOf W (slots c) (ShapeAt W H Lists t c)
 
 abbrev pub FullLists : ℕ → ℕ → ℕ → (ℕ → Rectangle → Type 0) → (ℕ → Tree) → ℕ → (ℕ → Corner → ℕ → ℕ) → Type 0
-FullLists W H R Suits node n slots = (t : ℕ) → t < n → ListsAt W H R Suits (slots t) (node t)
+FullLists W H R Lists node n slots = (t : ℕ) → t < n → ListsAt W H R Lists (slots t) (node t)
 
 -- "bytes after them are never touched"
 pub record PastKept (size : ℕ) (before after : List ℕ) : Type 0 where

@@ -5,7 +5,7 @@ use borrow.Author.Tests.{not-true, not-false}
 use borrow.Author.Needs.{needs}
 use Rattle.rules.proofs.Limits.{limits}
 use Rattle.slots.proofs.Lending.{lent-of}
-use Rattle.placing.proofs.Going.{laid-out, places-on, no-pair, all-tested}
+use Rattle.placing.proofs.Going.{whole-rooms, laid-out, places-on, no-pair, all-tested}
 use Rattle.placing.proofs.go_down.Statement.{statement}
 use Rattle.placing.proofs.go_down.Tie as tie
 
@@ -36,13 +36,13 @@ all-suit-requires : tie.Need-all-suit-requires
 all-suit-requires c κs =
     let l = c .before .before .before in let b = l .before in let p = b .before .before .before .before .before .pre in
     let z = laid-out p (b .board-of .ensures) (b .before .before .left-children .ensures) (l .lay-out .ensures) in
-    (p .lawful, places-on p z (not-false _ (c .before .if1 .left)))
+    (p .lawful, places-on p z (whole-rooms p z) (not-false _ (c .before .if1 .left)))
 
 returns-2 : tie.Need-returns-2
 returns-2 c =
     let l = c .before .before .before .before in let b = l .before in let p = b .before .before .before .before .before .pre in
     let z = laid-out p (b .board-of .ensures) (b .before .before .left-children .ensures) (l .lay-out .ensures) in
-    all-tested p z (not-false _ (c .before .before .if1 .left)) (c .all-suit .ensures)
+    all-tested p z (whole-rooms p z) (not-false _ (c .before .before .if1 .left)) (c .all-suit .ensures)
 
 pub go-down-spec : {M : Type 1} → statement M
 go-down-spec =
