@@ -14,7 +14,7 @@ use Rattle.rules.specs.declared.Design.{Design}
 use Rattle.rules.specs.declared.Edit.{Edit}
 use Rattle.rules.specs.declared.Edit.the-variants.{Change, Turn}
 use Rattle.rules.specs.Tree.{Tree, leaf, cut, position}
-use Rattle.rules.specs.Design.{LawfulDesign, tokenAt, nodeAt, nodes, SuitsOf, slotRows, HasSlots, slotsOf, widthOf, heightOf}
+use Rattle.rules.specs.Design.{LawfulDesign, tokenAt, nodeAt, nodes, ListsOf, slotRows, HasSlots, slotsOf, widthOf, heightOf}
 use Rattle.rules.specs.Edit.{Relists, changed, changedNode, EditedLists}
 use Rattle.rules.proofs.Standing.{Node, is-cut}
 use Rattle.rules.proofs.Nodes.{node-at}
@@ -57,11 +57,11 @@ SameSlots d t mid after = Agree (widthOf d) (slotRows d) (slotsOf d mid t) (slot
 -- what a node is listed from hangs on the slots of the nodes before it
 relists-same : (d : Design) → LawfulDesign d → (t : ℕ) → t < nodes d → (mid after : List ℕ) → ((u : ℕ) → u < t → SameSlots d u mid after)
     → (c : Corner) → HasSlots d c → (s : Shape)
-    → Relists (widthOf d) (heightOf d) (slotRows d) (SuitsOf d) mid (nodeAt d t) c s ↔ Relists (widthOf d) (heightOf d) (slotRows d) (SuitsOf d) after (nodeAt d t) c s
+    → Relists (widthOf d) (heightOf d) (slotRows d) (ListsOf d) mid (nodeAt d t) c s ↔ Relists (widthOf d) (heightOf d) (slotRows d) (ListsOf d) after (nodeAt d t) c s
 relists-same d lawful t h mid after same c on s = go (nodeAt d t) (node-at d lawful t h)
   where
     go : (u : Tree) → Node (d .modules) (tokenAt d) t u
-        → Relists (widthOf d) (heightOf d) (slotRows d) (SuitsOf d) mid u c s ↔ Relists (widthOf d) (heightOf d) (slotRows d) (SuitsOf d) after u c s
+        → Relists (widthOf d) (heightOf d) (slotRows d) (ListsOf d) mid u c s ↔ Relists (widthOf d) (heightOf d) (slotRows d) (ListsOf d) after u c s
     go (leaf t' k) n = (λ z. z, λ z. z)
     go (cut t' e l r) (is-cut q ch) =
         let a = ch .left-before in let b = ch .right-before in

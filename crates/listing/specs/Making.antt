@@ -8,7 +8,7 @@ use Rattle.rules.specs.declared.Corner.{Corner}
 use Rattle.rules.specs.declared.Design.{Design}
 use Rattle.rules.specs.Tree.{spans}
 use Rattle.rules.specs.Slot.{IsListOf, PastKept}
-use Rattle.rules.specs.Design.{nodeAt, nodes, SuitsOf, slotRows, HasSlots, slotsOf, LawfulDesign, OwnLists, widthOf, heightOf}
+use Rattle.rules.specs.Design.{nodeAt, nodes, ListsOf, slotRows, HasSlots, slotsOf, LawfulDesign, OwnLists, widthOf, heightOf}
 use Rattle.rules.specs.Edit.{Relists}
 use Rattle.rules.specs.Service.{workOf}
 use Rattle.slots.specs.Written.{NodeIs}
@@ -17,7 +17,7 @@ use Rattle.trees.specs.Positions.{LeftChildren}
 -- what node t is listed from at a corner, over the bytes as they stand
 abbrev pub IsListed : Design → ℕ → (ℕ → ℕ) → List ℕ → Corner → Type 0
 IsListed d t bytes work c =
-    IsListOf (widthOf d) bytes (Relists (widthOf d) (heightOf d) (slotRows d) (SuitsOf d) work (nodeAt d t) c)
+    IsListOf (widthOf d) bytes (Relists (widthOf d) (heightOf d) (slotRows d) (ListsOf d) work (nodeAt d t) c)
 
 -- what a pass asks: a lawful design, its cuts' left children, and bytes enough
 pub record Listable (d : Design) (children work : List ℕ) : Type 0 where

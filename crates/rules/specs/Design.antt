@@ -114,7 +114,7 @@ SuitsOf d k r = Suits (d .chip) (needAt d k) r
 -- module is given a rectangle in its room. The rules as they are make the two one: a room is listed exactly if it suits
 -- ("whose rectangle from (x, y) is on the chip and suits the need"), and the whole of it is given ("A leaf's rectangle is
 -- its shape at its corner"). No law may use that: the laws are told what proofs/Suiting.antt shows of a design's leaves.
-abbrev pub ListsOf : Design → ℕ → Rectangle → Type 0
+unfoldable pub ListsOf : Design → ℕ → Rectangle → Type 0
 ListsOf d k r = SuitsOf d k r
 
 unfoldable pub givenFor : Design → ℕ → Rectangle → Rectangle
