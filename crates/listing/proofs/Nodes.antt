@@ -7,7 +7,7 @@ use native.Mathlib.Omega.{arith}
 use lib.ListN.{getD}
 use Rattle.rules.specs.declared.Design.{Design}
 use Rattle.rules.specs.declared.Direction.{Direction}
-use Rattle.rules.specs.declared.Token.the-variants.{Cut, Module, Beyond}
+use Rattle.rules.specs.declared.Token.the-variants.{Cut, Module}
 use Rattle.rules.specs.Tree.{Tree, leaf, cut, position}
 use Rattle.rules.specs.Design.{needAt, tokenAt, nodeAt, nodes, slotsOf, widthOf, heightOf, mostModules, mostTokens}
 use Rattle.rules.proofs.Test.{fits}
@@ -40,13 +40,6 @@ module _ {d : Design} {lefts work : List ℕ} (L : Listable d lefts work) {t : �
       go : {u : Tree} → Node (d .modules) (tokenAt d) t u → k < mostModules
       go (is-leaf {k = j} e b) = let z : j ≡ k = cc in let l = limits d (L .lawful) in omega arith
       go (is-cut e c) = let z : _≡_ {A = ℕ} 0 1 = cc in absurd (omega arith)
-
-  pub never-beyond : tokenAt d t ≡ Beyond → ⊥
-  never-beyond q = go its-node
-    where
-      go : {u : Tree} → Node (d .modules) (tokenAt d) t u → ⊥
-      go (is-leaf e b) = let z : _≡_ {A = ℕ} 0 1 = cc in omega arith
-      go (is-cut e c) = let z : _≡_ {A = ℕ} 0 1 = cc in omega arith
 
   -- the bytes lent for all nodes are lent for the first ones
   pub node-lent : {b : Board} → b ≡ boardOf d → Lent b (suc t) work

@@ -7,7 +7,7 @@ use mathlib.Core.List.{[], _∷_}
 use Prim.Native.Nat.{ℕ, suc, _≤_, _<_, _-_}
 use native.Mathlib.Omega.{arith}
 use native.Mathlib.Decide.{decLt}
-use Rattle.rules.specs.declared.Token.the-variants.{Module}
+use Rattle.rules.specs.declared.Token.the-variants.{Module, Beyond}
 use Rattle.rules.specs.declared.Design.{Design}
 use Rattle.rules.specs.declared.Refusal.{Refusal}
 use Rattle.rules.specs.declared.Refusal.the-variants.{BreaksLimits, NotOneThing}
@@ -16,7 +16,7 @@ use Rattle.rules.specs.declared.Reply.the-variants.{Done, Refused}
 use Rattle.rules.specs.Tree.{Tree, leaf, cut, position, has, Standing, refused, things, last}
 use Rattle.rules.specs.Placement.{Placement, Kept, Follows, KeptAt}
 use Rattle.rules.specs.Design.{mostModules, tokenAt, nodes, inRange, withinLimits, standingOf, nodeAt, root, treeTest, valueTest, LawfulDesign}
-use Rattle.rules.proofs.Standing.{Once, Part, whole, in-left, in-right, Among, here, Reading, Node, is-leaf, was-read, node-among, among-node, last-position, node-is, leaf-of, module-once, one-stands}
+use Rattle.rules.proofs.Standing.{Once, Part, whole, in-left, in-right, Among, here, Reading, Node, is-leaf, is-cut, was-read, node-among, among-node, last-position, node-is, leaf-of, module-once, one-stands}
 use Rattle.rules.proofs.Searching.{test-iffs}
 
 -- a design's tree test: 6 is never the answer
@@ -77,6 +77,14 @@ only-among (here p) = p
 module _ (d : Design) (lawful : LawfulDesign d) where
   pub node-at : (t : ℕ) → t < nodes d → Node (d .modules) (tokenAt d) t (nodeAt d t)
   node-at t h = node-is (lawful-tree d lawful .reading) t h
+
+  -- its token is a cut or a module
+  pub never-beyond : (t : ℕ) → t < nodes d → tokenAt d t ≡ Beyond → ⊥
+  never-beyond t h q = go (node-at t h)
+    where
+      go : {u : Tree} → Node (d .modules) (tokenAt d) t u → ⊥
+      go (is-leaf e b) = let z : _≡_ {A = ℕ} 0 1 = cc in omega arith
+      go (is-cut e c) = let z : _≡_ {A = ℕ} 0 1 = cc in omega arith
 
   pub node-part : (t : ℕ) → t < nodes d → Part (nodeAt d t) (root d)
   node-part t h = only-among (node-among (lawful-tree d lawful .reading) t h)

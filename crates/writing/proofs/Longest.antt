@@ -4,39 +4,22 @@ use mathlib.Core.Path.{_≡_}
 use Prim.Native.Nat.{ℕ, zero, suc, _+_, _*_, _-_, _≤_, _<_}
 use native.Mathlib.Omega.{arith}
 use native.Mathlib.Nat.{le-trans, mul-le-mul-left}
-use native.Mathlib.Decide.{decLt}
 use lib.ListN.{length, getD}
-use borrow.Author.Tests.{le-ltb}
-use Rattle.rules.specs.declared.Token.the-variants.{Beyond}
 use Rattle.rules.specs.declared.Design.{Design}
 use Rattle.rules.specs.Chip.{kindAt}
-use Rattle.rules.specs.Tree.{Tree, tokenOf}
 use Rattle.rules.specs.Design.{mostTokens, mostColumns, mostRows, lastKind, mostModules, mostNumber}
 use Rattle.rules.specs.Design.{needAt, tokenAt, nodes, LawfulDesign, widthOf, heightOf}
 use Rattle.rules.specs.Bytes.{numberBytes, needBytes, rowBytes, designBytes}
-use Rattle.rules.proofs.Standing.{Node, is-leaf, is-cut}
-use Rattle.rules.proofs.Nodes.{node-at}
+use Rattle.rules.proofs.Tokens.{small-number}
+use Rattle.rules.proofs.Nodes.{never-beyond}
 use Rattle.rules.proofs.Limits.{limits, need-limits}
 use Rattle.writing.specs.Parts.{widest, designRoom}
 use Rattle.writing.proofs.Lengths.{lesser-shorter, length-need, row-short, length-head, length-modules, length-design}
 
--- the tokens of a lawful design are its cuts and its modules
-small-token : (most v : ℕ) → (tokenOf most v ≡ Beyond → ⊥) → v ≤ most + 1
-small-token most zero h = omega arith
-small-token most (suc zero) h = omega arith
-small-token most (suc (suc k)) h = go (decLt k most)
-  where
-    go : Dec (k < most) → suc (suc k) ≤ most + 1
-    go (yes l) = omega arith
-    go (no l) = absurd (h (rw (le-ltb k most (omega arith), tokenOf)))
-
 module _ (d : Design) (lawful : LawfulDesign d) where
+  -- the tokens of a lawful design are its cuts and its modules
   token-small : (t : ℕ) → t < nodes d → getD (d .tokens) t 0 ≤ mostModules + 1
-  token-small t h = small-token mostModules _ (not-beyond (node-at d lawful t h))
-    where
-      not-beyond : {u : Tree} → Node (d .modules) (tokenAt d) t u → tokenAt d t ≡ Beyond → ⊥
-      not-beyond (is-leaf e _) b = let z : _≡_ {A = ℕ} 0 1 = cc in omega arith
-      not-beyond (is-cut e _) b = let z : _≡_ {A = ℕ} 0 1 = cc in omega arith
+  token-small t h = omega (arith, small-number mostModules (getD (d .tokens) t 0) (never-beyond d lawful t h))
 
   need-small : (k : ℕ) → k < d .modules → length (needBytes (needAt d k)) ≤ 3 * widest mostNumber
   need-small k h =

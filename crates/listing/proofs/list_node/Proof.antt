@@ -3,7 +3,8 @@
 use mathlib.Core.Path.{sym, _∙_}
 use native.Mathlib.Omega.{arith}
 use borrow.Author.Needs.{needs}
-use Rattle.listing.proofs.Nodes.{few-nodes, module-of, never-beyond, leaf-ready, leaf-made, left-before, cut-after, cut-lent, cut-made}
+use Rattle.rules.proofs.Nodes.{never-beyond}
+use Rattle.listing.proofs.Nodes.{few-nodes, module-of, leaf-ready, leaf-made, left-before, cut-after, cut-lent, cut-made}
 use Rattle.listing.proofs.list_node.Statement.{statement}
 use Rattle.listing.proofs.list_node.Tie as tie
 
@@ -76,7 +77,7 @@ returns-2 c =
 returns-3 : tie.Need-returns-3
 returns-3 c =
     let f = c .before .before in let p = f .before .before .before .before .pre in
-    absurd (never-beyond (p .0) (p .1) (sym (f .token-of .ensures) ∙ c .enum-told .given .1))
+    absurd (never-beyond _ (p .0 .lawful) _ (p .1) (sym (f .token-of .ensures) ∙ c .enum-told .given .1))
 
 pub list-node-spec : {M : Type 1} → statement M
 list-node-spec =
