@@ -105,7 +105,8 @@ pub record PutsBack (h : Handed) (out : Lent) (reply : Answer) : Type 0 where
 pub record EditsInto (d : Design) (e : Edit) (work out : Lent) (reply : Answer) : Type 0 where
   pub unnamed : length (out .came) < designRoom → (So (namesPlace d e) → ⊥)
       → (reply ≡ refusal NoSuchEdit) × Stands work × Stands out
-  pub short : length (out .came) < designRoom → So (namesPlace d e) → (reply ≡ refusal TooShort) × Stands work × Stands out
+  pub short : length (out .came) < designRoom → So (namesPlace d e)
+      → (reply ≡ refusal TooShort) × Stands work × Stands out
   pub room : designRoom ≤ length (out .came)
       → (h : Handed) × Edits d e (work .came) h (work .left) × PutsBack h out reply
 

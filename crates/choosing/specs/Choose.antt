@@ -35,7 +35,8 @@ chosenShape n bytes =
 
 -- of the best shape so far and a wider one: the wider if it is a shape, and the first or of less area
 unfoldable pub betterOf : Shape → Shape → Shape
-betterOf best next = elim (ltb 0 (next .h .0) && (eqb (best .w .0) 0 || ltb (area next) (area best))) [ true ↦ next | false ↦ best ]
+betterOf best next =
+    elim (ltb 0 (next .h .0) && (eqb (best .w .0) 0 || ltb (area next) (area best))) [ true ↦ next | false ↦ best ]
 
 -- the two shapes if a test holds
 abbrev pub takenIf : Bool → Shape → Shape → Pair
@@ -45,10 +46,12 @@ takenIf false s o = None
 -- the pair to take at a cut: "the first shape of the left list there for which the right list .. has" one
 unfoldable pub pairOf : ℕ → ℕ → Direction → (Corner → ℕ → ℕ) → (Corner → ℕ → ℕ) → Corner → Shape → Pair
 pairOf W H d lefts rights c whole =
-    takenIf (hasPair W H d lefts rights c whole) (leftShape W H d lefts rights c whole) (rightShape W H d lefts rights c whole)
+    takenIf (hasPair W H d lefts rights c whole) (leftShape W H d lefts rights c whole)
+    (rightShape W H d lefts rights c whole)
 
 abbrev pub pairIn : Board → (ℕ → Corner → ℕ → ℕ) → Direction → ℕ → ℕ → Corner → Shape → Pair
-pairIn board slots d left right c whole = pairOf (board .width .0) (board .height .0) d (slots left) (slots right) c whole
+pairIn board slots d left right c whole =
+    pairOf (board .width .0) (board .height .0) d (slots left) (slots right) c whole
 
 -- the pair found first, or else the later one; of n searches the first that finds one
 abbrev pub firstOf : Pair → Pair → Pair

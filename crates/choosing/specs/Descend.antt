@@ -56,7 +56,8 @@ abbrev pub givenRooms : ℕ → Rectangle → ℕ → Rectangle → Descent → 
 givenRooms l a r b e = record { ok = e .ok; rooms = set (set (e .rooms) l a) r b; places = e .places }
 
 abbrev pub downPair : Direction → ℕ → ℕ → Corner → Pair → Descent → Descent
-downPair d l r c (Taken s o) e = givenRooms l (record { corner = c; shape = s }) r (record { corner = beside d c s; shape = o }) e
+downPair d l r c (Taken s o) e =
+    givenRooms l (record { corner = c; shape = s }) r (record { corner = beside d c s; shape = o }) e
 downPair d l r c None e = stoppedAt e
 
 -- the right child of the cut at position t stands just before it, its left child, at position l, before that
@@ -79,7 +80,8 @@ downNode board slots tokens lefts t e = downToken board slots (tokenIn tokens t)
 
 unfoldable pub descended : Board → (ℕ → Corner → ℕ → ℕ) → List ℕ → List ℕ → ℕ → Descent → Descent
 descended board slots tokens lefts zero e = e
-descended board slots tokens lefts (suc t) e = descended board slots tokens lefts t (downNode board slots tokens lefts t e)
+descended board slots tokens lefts (suc t) e =
+    descended board slots tokens lefts t (downNode board slots tokens lefts t e)
 
 -- every corner given is one of the chip
 pub record Settled (board : Board) (e : Descent) : Type 0 where

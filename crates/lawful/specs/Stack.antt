@@ -26,7 +26,8 @@ passes s = record { ok = true; stack = s }
 
 -- a cut joins two things into one
 unfoldable pub afterCut : Stack → Step
-afterCut s = elim (ltb (s .count) 2) [ true ↦ refuses s | false ↦ passes (record { seen = s .seen; count = s .count - 1 }) ]
+afterCut s =
+    elim (ltb (s .count) 2) [ true ↦ refuses s | false ↦ passes (record { seen = s .seen; count = s .count - 1 }) ]
 
 -- a module is one more thing, if it is one of m and does not stand yet
 unfoldable pub afterModule : ℕ → ℕ → Stack → Step

@@ -90,11 +90,13 @@ pub record StopsAt (passes : ℕ → Bool) (c from r : ℕ) : Type 0 where
 
 -- counts of columns by their kinds, and one column more
 abbrev pub byKind : ℕ → ℕ → ℕ → ByKind
-byKind clbs rams multipliers = record { clbs = record { 0 = clbs }; rams = record { 0 = rams }; multipliers = record { 0 = multipliers } }
+byKind clbs rams multipliers =
+    record { clbs = record { 0 = clbs }; rams = record { 0 = rams }; multipliers = record { 0 = multipliers } }
 
 unfoldable pub oneMore : ByKind → ℕ → ByKind
 oneMore n kind =
-    byKind (n .clbs .0 + boolByte (eqb kind 0)) (n .rams .0 + boolByte (eqb kind 1)) (n .multipliers .0 + boolByte (eqb kind 2))
+    byKind (n .clbs .0 + boolByte (eqb kind 0))
+    (n .rams .0 + boolByte (eqb kind 1)) (n .multipliers .0 + boolByte (eqb kind 2))
 
 -- the height up to a top side, or 0 where that is above the chip
 abbrev pub heightTo : ℕ → ℕ → ℕ → ℕ

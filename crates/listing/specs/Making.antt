@@ -33,7 +33,8 @@ pub record NodeMade (d : Design) (t : ℕ) (before after : List ℕ) : Type 0 wh
 
 pub record Made (d : Design) (marked : ℕ → Bool) (done : ℕ) (before after : List ℕ) : Type 0 where
   pub long : length after ≡ length before
-  pub made : (t : ℕ) → t < done → So (marked t) → (c : Corner) → HasSlots d c → IsListed d t (slotsOf d after t c) after c
+  pub made : (t : ℕ) → t < done → So (marked t) → (c : Corner) → HasSlots d c
+      → IsListed d t (slotsOf d after t c) after c
   pub kept : (t : ℕ) → t < nodes d → (t < done → So (marked t) → ⊥) → (c : Corner) → HasSlots d c
       → (j : ℕ) → j < widthOf d → slotsOf d after t c j ≡ slotsOf d before t c j
   pub past : (i : ℕ) → workOf d ≤ i → getD after i 0 ≡ getD before i 0

@@ -13,9 +13,8 @@ use Rattle.rules.specs.declared.Refusal.the-variants.{Unreliable, NoPlacement}
 use Rattle.rules.specs.declared.Planned.the-variants.{Box, Refused}
 use Rattle.rules.specs.Chip.{corner}
 use Rattle.rules.specs.Placement.{Placement}
-use Rattle.rules.specs.Slot.{Empty}
-use Rattle.rules.specs.Choice.{Chosen, rowsOut}
-use Rattle.rules.specs.Design.{mostColumns, mostRows, nodes, slotsOf, rootSlot, GoesDown, widthOf, heightOf}
+use Rattle.rules.specs.Choice.{rowsOut}
+use Rattle.rules.specs.Design.{mostColumns, mostRows, nodes, slotsOf, rootSlot, GoesDown, widthOf, heightOf, NoShapeIn, ChosenIn}
 use Rattle.rules.specs.Service.{Enough}
 use Rattle.rules.proofs.Test.{laidFor}
 use Rattle.rules.proofs.Searching.{absurd-so}
@@ -40,26 +39,26 @@ module _ {d : Design} {work rows : List ℕ} (room : Enough d work rows) where
   -- the shape found, on the design's own board
   module _ {s : Shape} {board : Board} (e : board ≡ boardOf d)
       (q : s ≡ chosenShape (board .width .0) (slotsOn board work (nodes d - 1) (corner 0 0))) where
-    pub none-chosen : s .w .0 ≡ 0 → Empty (widthOf d) (rootSlot d (slotsOf d work))
+    pub none-chosen : s .w .0 ≡ 0 → NoShapeIn d work
     none-chosen z = chosen-none (widthOf d) (rootSlot d (slotsOf d work)) s (rw e at q) z
 
-    pub this-chosen : (s .w .0 ≡ 0 → ⊥) → Chosen (widthOf d) (rootSlot d (slotsOf d work)) s
+    pub this-chosen : (s .w .0 ≡ 0 → ⊥) → ChosenIn d work s
     this-chosen n = chosen-this (widthOf d) (rootSlot d (slotsOf d work)) s (rw e at q) n
 
-  pub answer-none : Empty (widthOf d) (rootSlot d (slotsOf d work)) → PlacedFrom d work rows (Refused NoPlacement) rows
+  pub answer-none : NoShapeIn d work → PlacedFrom d work rows (Refused NoPlacement) rows
   answer-none z = record {
     none = λ _. (refl, refl);
     lost = λ o ch _. absurd (z o (ch .stored));
     done = λ o p ch _. absurd (z o (ch .stored));
   }
 
-  module _ {s : Shape} (ch : Chosen (widthOf d) (rootSlot d (slotsOf d work)) s)
+  module _ {s : Shape} (ch : ChosenIn d work s)
       {r : Layout} (w : WentDown d (slotsOf d work) s r) where
-    only : (o : Shape) → Chosen (widthOf d) (rootSlot d (slotsOf d work)) o → o ≡ s
+    only : (o : Shape) → ChosenIn d work o → o ≡ s
     only o x = chosen-once (widthOf d) (rootSlot d (slotsOf d work)) o s x ch
 
     -- whoever goes down, the layout did, and to the same rectangles
-    went : (o : Shape) (p : Placement) → Chosen (widthOf d) (rootSlot d (slotsOf d work)) o → GoesDown d (slotsOf d work) o p
+    went : (o : Shape) (p : Placement) → ChosenIn d work o → GoesDown d (slotsOf d work) o p
         → So (r .ok) × ((k : ℕ) → k < d .modules → p k ≡ placeOf (r .places) k)
     went o p x down =
         let (g, f) = goes-laid d (room .lawful) (slotsOf d work) s p (rw (only o x) at down) in

@@ -13,9 +13,9 @@ use Rattle.rules.specs.declared.Planned.{Planned}
 use Rattle.rules.specs.declared.Planned.the-variants.{Box, Refused}
 use Rattle.rules.specs.Chip.{OnChip}
 use Rattle.rules.specs.Placement.{Placement}
-use Rattle.rules.specs.Slot.{Stores, Empty}
-use Rattle.rules.specs.Choice.{Chosen, rowsOut}
-use Rattle.rules.specs.Design.{mostColumns, mostRows, mostModules, givenFor, LawfulDesign, slotsOf, AllStairs, rootSlot, GoesDown, widthOf, heightOf}
+use Rattle.rules.specs.Slot.{Stores}
+use Rattle.rules.specs.Choice.{rowsOut}
+use Rattle.rules.specs.Design.{mostColumns, mostRows, mostModules, givenFor, LawfulDesign, slotsOf, AllStairs, rootSlot, GoesDown, widthOf, heightOf, NoShapeIn, ChosenIn}
 use Rattle.rules.specs.Service.{workOf, rowsOf}
 use Rattle.rules.proofs.Test.{goesFor, laidFor}
 use Rattle.choosing.specs.declared.Layout.{Layout}
@@ -51,8 +51,8 @@ pub record RowsLent (m : ℕ) (places : List Rectangle) (rows : List ℕ) : Type
 -- the answer over lists that are all stairs, with room enough: the root's list is empty, or going down from its chosen shape fails, or
 -- it gives the floorplan
 pub record PlacedFrom (d : Design) (work rows : List ℕ) (r : Planned) (rows' : List ℕ) : Type 0 where
-  pub none : Empty (widthOf d) (rootSlot d (slotsOf d work)) → (r ≡ Refused NoPlacement) × (rows' ≡ rows)
-  pub lost : (s : Shape) → Chosen (widthOf d) (rootSlot d (slotsOf d work)) s → ((p : Placement) → GoesDown d (slotsOf d work) s p → ⊥)
+  pub none : NoShapeIn d work → (r ≡ Refused NoPlacement) × (rows' ≡ rows)
+  pub lost : (s : Shape) → ChosenIn d work s → ((p : Placement) → GoesDown d (slotsOf d work) s p → ⊥)
       → (r ≡ Refused Unreliable) × (rows' ≡ rows)
-  pub done : (s : Shape) (p : Placement) → Chosen (widthOf d) (rootSlot d (slotsOf d work)) s → GoesDown d (slotsOf d work) s p
+  pub done : (s : Shape) (p : Placement) → ChosenIn d work s → GoesDown d (slotsOf d work) s p
       → (r ≡ Box s) × (rows' ≡ rowsOut (d .modules) p ++ drop (rowsOf d) rows)

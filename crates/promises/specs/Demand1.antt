@@ -18,9 +18,8 @@ use Rattle.rules.specs.declared.Written.{Written}
 use Rattle.rules.specs.declared.Planned.{Planned}
 use Rattle.rules.specs.Tree.{refused}
 use Rattle.rules.specs.Placement.{Placement}
-use Rattle.rules.specs.Slot.{PastKept, Empty}
-use Rattle.rules.specs.Choice.{Chosen}
-use Rattle.rules.specs.Design.{withinLimits, standingOf, nodes, LawfulDesign, LawfulPlacement, slotsOf, AllStairs, OwnLists, rootSlot, GoesDown, widthOf}
+use Rattle.rules.specs.Slot.{PastKept}
+use Rattle.rules.specs.Design.{withinLimits, standingOf, nodes, LawfulDesign, LawfulPlacement, slotsOf, AllStairs, OwnLists, GoesDown, widthOf, NoShapeIn, ChosenIn}
 use Rattle.rules.specs.Edit.{namesPlace}
 use Rattle.rules.specs.Bytes.{took, refuse, designBytes, designAt}
 use Rattle.rules.specs.Check.{fromRows, FirstOff, FirstShort, FirstNotKept}
@@ -82,9 +81,9 @@ pub record PlanLeft (d : Design) (before rows : List ℕ) (number : ℕ) (after 
 pub data PlaceNumbered (d : Design) (work rows rows' : List ℕ) : Answer → Type 0 where
   short : (length work < workOf d) ⊎ (length rows < rowsOf d) → PlaceNumbered d work rows rows' (plainly 8 0)
   stranger : Enough d work rows → (AllStairs d (slotsOf d work) → ⊥) → PlaceNumbered d work rows rows' (plainly 9 0)
-  none : Enough d work rows → AllStairs d (slotsOf d work) → Empty (widthOf d) (rootSlot d (slotsOf d work))
+  none : Enough d work rows → AllStairs d (slotsOf d work) → NoShapeIn d work
       → PlaceNumbered d work rows rows' (plainly 10 0)
-  lost : {s : Shape} → Enough d work rows → AllStairs d (slotsOf d work) → Chosen (widthOf d) (rootSlot d (slotsOf d work)) s
+  lost : {s : Shape} → Enough d work rows → AllStairs d (slotsOf d work) → ChosenIn d work s
       → ((p : Placement) → GoesDown d (slotsOf d work) s p → ⊥) → PlaceNumbered d work rows rows' (plainly 9 0)
   done : {s : Shape} → Enough d work rows → AllStairs d (slotsOf d work) → LawfulPlacement d (fromRows rows')
       → PlaceNumbered d work rows rows' (boxed s)
@@ -93,23 +92,29 @@ pub data PlaceNumbered (d : Design) (work rows rows' : List ℕ) : Answer → Ty
 pub data EditNumbered (d : Design) (e : Edit) (before : List ℕ) : Answer → Type 0 where
   unnamed : (So (namesPlace d e) → ⊥) → EditNumbered d e before (plainly 11 0)
   short : So (namesPlace d e) → length before < workOf d → EditNumbered d e before (plainly 8 0)
-  stranger : So (namesPlace d e) → workOf d ≤ length before → (AllStairs d (slotsOf d before) → ⊥) → EditNumbered d e before (plainly 9 0)
-  done : So (namesPlace d e) → workOf d ≤ length before → AllStairs d (slotsOf d before) → EditNumbered d e before (plainly 0 0)
+  stranger : So (namesPlace d e) → workOf d ≤ length before → (AllStairs d (slotsOf d before) → ⊥)
+      → EditNumbered d e before (plainly 9 0)
+  done : So (namesPlace d e) → workOf d ≤ length before → AllStairs d (slotsOf d before)
+      → EditNumbered d e before (plainly 0 0)
 
 -- check: "The checker looks at 8, then modules in order (12 before 13 for each), then cuts in token order; it names the module (12, 13) or the
 -- token's position (14), and 0 with any other reply." Rows are only read.
 pub data CheckNumbered (d : Design) (rows : List ℕ) : Answer → Type 0 where
   short : length rows < rowsOf d → CheckNumbered d rows (plainly 8 0)
   off-the-chip : {k : ℕ} → rowsOf d ≤ length rows → FirstOff d (fromRows rows) k → CheckNumbered d rows (plainly 12 k)
-  short-of-need : {k : ℕ} → rowsOf d ≤ length rows → FirstShort d (fromRows rows) k → CheckNumbered d rows (plainly 13 k)
-  cut-not-kept : {t : ℕ} → rowsOf d ≤ length rows → FirstNotKept d (fromRows rows) t → CheckNumbered d rows (plainly 14 t)
+  short-of-need : {k : ℕ} → rowsOf d ≤ length rows → FirstShort d (fromRows rows) k
+      → CheckNumbered d rows (plainly 13 k)
+  cut-not-kept : {t : ℕ} → rowsOf d ≤ length rows → FirstNotKept d (fromRows rows) t
+      → CheckNumbered d rows (plainly 14 t)
   done : rowsOf d ≤ length rows → LawfulPlacement d (fromRows rows) → CheckNumbered d rows (plainly 0 0)
 
 -- "It tests every design, list, floorplan and edit for itself. A bad one gets its numbered refusal"
 pub record Numbered (S : Services) : Type 0 where
   pub read : (s : List ℕ) (r : Handed) → S .read s r → ReadNumbered s (r .design) (answer (r .reply))
-  pub write : (d : Design) (before after : List ℕ) (r : Written) → S .write d before r after → Tested d (WriteNumbered d before) (writtenAnswer r)
-  pub list : (d : Design) (before after : List ℕ) (r : Reply) → S .list d before r after → Tested d (ListNumbered d before) (answer r)
+  pub write : (d : Design) (before after : List ℕ) (r : Written) → S .write d before r after
+      → Tested d (WriteNumbered d before) (writtenAnswer r)
+  pub list : (d : Design) (before after : List ℕ) (r : Reply) → S .list d before r after
+      → Tested d (ListNumbered d before) (answer r)
   pub plan : (d : Design) (before rows after rows' : List ℕ) (r : Planned) → S .plan d before rows r after rows'
       → Tested d (PlanNumbered d before rows) (plannedAnswer r)
   pub place : (d : Design) (work rows rows' : List ℕ) (r : Planned) → S .place d work rows r rows'
@@ -121,11 +126,14 @@ pub record Numbered (S : Services) : Type 0 where
 -- "and the rules fix what then stands in each buffer it was lent"
 pub record Leaving (S : Services) : Type 0 where
   pub read : (s : List ℕ) (r : Handed) → S .read s r → Refusing (answer (r .reply)) (r .design ≡ zeros)
-  pub write : (d : Design) (before after : List ℕ) (r : Written) → S .write d before r after → Refusing (writtenAnswer r) (after ≡ before)
-  pub list : (d : Design) (before after : List ℕ) (r : Reply) → S .list d before r after → Refusing (answer r) (after ≡ before)
+  pub write : (d : Design) (before after : List ℕ) (r : Written) → S .write d before r after
+      → Refusing (writtenAnswer r) (after ≡ before)
+  pub list : (d : Design) (before after : List ℕ) (r : Reply) → S .list d before r after
+      → Refusing (answer r) (after ≡ before)
   pub plan : (d : Design) (before rows after rows' : List ℕ) (r : Planned) → S .plan d before rows r after rows'
       → Refusing (plannedAnswer r) (PlanLeft d before rows (plannedAnswer r .number) after rows')
-  pub place : (d : Design) (work rows rows' : List ℕ) (r : Planned) → S .place d work rows r rows' → Refusing (plannedAnswer r) (rows' ≡ rows)
+  pub place : (d : Design) (work rows rows' : List ℕ) (r : Planned) → S .place d work rows r rows'
+      → Refusing (plannedAnswer r) (rows' ≡ rows)
   pub edit : (d : Design) (e : Edit) (before after : List ℕ) (r : Handed) → S .edit d e before r after
       → Refusing (answer (r .reply)) ((r .design ≡ d) × (after ≡ before))
 

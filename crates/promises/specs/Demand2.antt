@@ -29,13 +29,15 @@ pub record GoodList (d : Design) (t : ℕ) (c : Corner) (bytes : ℕ → ℕ) : 
   pub shapes : (s : Shape) → Stores (widthOf d) bytes s → ShapeAt (widthOf d) (heightOf d) (ListsOf d) (nodeAt d t) c s
   pub complete : (s : Shape) → ShapeAt (widthOf d) (heightOf d) (ListsOf d) (nodeAt d t) c s
       → (o : Shape) × Stores (widthOf d) bytes o × Dominates o s
-  pub sorted : (s o : Shape) → Stores (widthOf d) bytes s → Stores (widthOf d) bytes o → s .w .0 < o .w .0 → o .h .0 < s .h .0
+  pub sorted : (s o : Shape) → Stores (widthOf d) bytes s → Stores (widthOf d) bytes o → s .w .0 < o .w .0
+      → o .h .0 < s .h .0
   pub undominated : (s o : Shape) → Stores (widthOf d) bytes s
       → ShapeAt (widthOf d) (heightOf d) (ListsOf d) (nodeAt d t) c o → Dominates o s → o ≡ s
 
 -- of every node, at every corner of the chip
 abbrev pub GoodLists : Design → List ℕ → Type 0
-GoodLists d work = (t : ℕ) (c : Corner) → t < nodes d → CornerOn (widthOf d) (heightOf d) c → GoodList d t c (slotsOf d work t c)
+GoodLists d work = (t : ℕ) (c : Corner) → t < nodes d → CornerOn (widthOf d) (heightOf d) c
+    → GoodList d t c (slotsOf d work t c)
 
 -- "no placement on the chip follows the tree and meets every need"
 abbrev pub NoPlacement : Design → Type 0
@@ -47,7 +49,8 @@ pub record GoodPlan (d : Design) (s : Shape) (rows : List ℕ) : Type 0 where
   pub follow : Follows (root d) (fromRows rows)
   pub on-chip : (k : ℕ) → k < d .modules → OnChip (widthOf d) (heightOf d) (fromRows rows k)
   pub meet : (k : ℕ) → k < d .modules → SuitsOf d k (fromRows rows k)
-  pub apart : (i j x y : ℕ) → i < d .modules → j < d .modules → Covers (fromRows rows i) x y → Covers (fromRows rows j) x y → i ≡ j
+  pub apart : (i j x y : ℕ) → i < d .modules → j < d .modules → Covers (fromRows rows i) x y
+      → Covers (fromRows rows j) x y → i ≡ j
   pub smallest : (q : Placement) → LawfulPlacement d q → area s ≤ area (box (root d) q)
   pub boxed : s ≡ box (root d) (fromRows rows)
 
@@ -71,10 +74,12 @@ pub record Demand2 (S : Services) : Type 0 where
   pub checked : (d : Design) (rows : List ℕ) (r : Reply) → S .check d rows r
       → LawfulDesign d → rowsOf d ≤ length rows → (answer r .number ≡ 0) ↔ LawfulPlacement d (fromRows rows)
   -- "Given room, accepted bytes, written again, are the same bytes"
-  pub bytes-again : (s before after : List ℕ) (r : Handed) (w : Written) → AreBytes s → S .read s r → answer (r .reply) .number ≡ 0
+  pub bytes-again : (s before after : List ℕ) (r : Handed) (w : Written) → AreBytes s → S .read s r
+      → answer (r .reply) .number ≡ 0
       → S .write (r .design) before w after → length s ≤ length before
       → (writtenAnswer w ≡ plainly 0 (length s)) × (take (length s) after ≡ s)
   -- "a lawful design, written and read, is the same design"
-  pub design-again : (d : Design) (before after : List ℕ) (w : Written) (r : Handed) → LawfulDesign d → S .write d before w after
+  pub design-again : (d : Design) (before after : List ℕ) (w : Written) (r : Handed) → LawfulDesign d
+      → S .write d before w after
       → length (designBytes d) ≤ length before → S .read (take (writtenAnswer w .value) after) r
       → (answer (r .reply) .number ≡ 0) × SameDesign d (r .design)

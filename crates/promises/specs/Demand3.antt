@@ -30,13 +30,18 @@ use Rattle.promises.specs.Demand2.{GoodLists}
 -- design `from` and the work bytes `start` has led to a design and bytes. The lists are what list or plan leaves; and between two edits the
 -- design may be saved: written, and read again from its bytes.
 pub data Run (S : Services) (from : Design) (start : List ℕ) : Design → List ℕ → Type 0 where
-  listed : {r : Reply} {work : List ℕ} → LawfulDesign from → workOf from ≤ length start → S .list from start r work → Run S from start from work
-  planned : {rows rows' : List ℕ} {r : Planned} {work : List ℕ} → Enough from start rows → S .plan from start rows r work rows'
+  listed : {r : Reply} {work : List ℕ} → LawfulDesign from → workOf from ≤ length start → S .list from start r work
       → Run S from start from work
-  edited : {d : Design} {work after : List ℕ} {e : Edit} {r : Handed} → Run S from start d work → S .edit d e work r after
+  planned : {rows rows' : List ℕ} {r : Planned} {work : List ℕ} → Enough from start rows
+      → S .plan from start rows r work rows'
+      → Run S from start from work
+  edited : {d : Design} {work after : List ℕ} {e : Edit} {r : Handed} → Run S from start d work
+      → S .edit d e work r after
       → Run S from start (r .design) after
-  saved : {d : Design} {work out out' : List ℕ} {w : Written} {r : Handed} → Run S from start d work → S .write d out w out'
-      → length (designBytes d) ≤ length out → S .read (take (writtenAnswer w .value) out') r → Run S from start (r .design) work
+  saved : {d : Design} {work out out' : List ℕ} {w : Written} {r : Handed} → Run S from start d work
+      → S .write d out w out'
+      → length (designBytes d) ≤ length out → S .read (take (writtenAnswer w .value) out') r
+      → Run S from start (r .design) work
 
 -- the same chip, and as many modules
 pub record SameSizes (d e : Design) : Type 0 where
@@ -72,13 +77,15 @@ pub record RunKept (S : Services) (from : Design) (start : List ℕ) (d : Design
   pub refused : (e : Edit) (r : Handed) (after : List ℕ) → S .edit d e work r after
       → (answer (r .reply) .number ≡ 0 → ⊥) → (answer (r .reply) .number ≡ 11) × (So (namesPlace d e) → ⊥)
   -- "granted, it makes that one change"
-  pub granted : (e : Edit) (r : Handed) (after : List ℕ) → S .edit d e work r after → answer (r .reply) .number ≡ 0 → OneChange d e (r .design)
+  pub granted : (e : Edit) (r : Handed) (after : List ℕ) → S .edit d e work r after → answer (r .reply) .number ≡ 0
+      → OneChange d e (r .design)
   -- "After any run of edits the lists equal, byte for byte, a fresh listing of the design as it now stands"
   pub fresh : (before listed : List ℕ) (r : Reply) → S .list d before r listed → workOf d ≤ length before
       → take (workOf d) work ≡ take (workOf d) listed
   -- "and no granted edit has altered a list off the way from the edited node up to the root"
   pub off : (e : Edit) (r : Handed) (after : List ℕ) → S .edit d e work r after → answer (r .reply) .number ≡ 0
-      → (t : ℕ) (c : Corner) → t < nodes d → CornerOn (widthOf d) (heightOf d) c → OffWay (r .design) (changedNode d e) t
+      → (t : ℕ) (c : Corner) → t < nodes d → CornerOn (widthOf d) (heightOf d) c
+      → OffWay (r .design) (changedNode d e) t
       → (j : ℕ) → j < widthOf d → slotsOf d after t c j ≡ slotsOf d work t c j
   -- demand 2's "each list is complete, sorted and free of dominated shapes", after any run too
   pub good : GoodLists d work
@@ -86,8 +93,10 @@ pub record RunKept (S : Services) (from : Design) (start : List ℕ) (d : Design
   pub past : PastKept (workOf d) start work
   pub sizes : SameSizes from d
   -- 01, place "from lists already filled" gives what plan gives
-  pub place : (before rows after rows' out : List ℕ) (r r' : Planned) → Enough d before rows → S .plan d before rows r after rows'
+  pub place : (before rows after rows' out : List ℕ) (r r' : Planned) → Enough d before rows
+      → S .plan d before rows r after rows'
       → S .place d work rows r' out → (plannedAnswer r' ≡ plannedAnswer r) × (out ≡ rows')
 
 pub record Demand3 (S : Services) : Type 0 where
-  pub kept : (from : Design) (start : List ℕ) (d : Design) (work : List ℕ) → Run S from start d work → RunKept S from start d work
+  pub kept : (from : Design) (start : List ℕ) (d : Design) (work : List ℕ) → Run S from start d work
+      → RunKept S from start d work

@@ -18,10 +18,12 @@ pub record SameTreatment (S : Services) : Type 0 where
   pub list : (d e : Design) → SameDesign d e → (before after after' : List ℕ) (r r' : Reply)
       → S .list d before r after → S .list e before r' after' → (r ≡ r') × (after ≡ after')
   pub plan : (d e : Design) → SameDesign d e → (before rows after after' out out' : List ℕ) (r r' : Planned)
-      → S .plan d before rows r after out → S .plan e before rows r' after' out' → (r ≡ r') × (after ≡ after') × (out ≡ out')
+      → S .plan d before rows r after out → S .plan e before rows r' after' out'
+      → (r ≡ r') × (after ≡ after') × (out ≡ out')
   pub place : (d e : Design) → SameDesign d e → (work rows out out' : List ℕ) (r r' : Planned)
       → S .place d work rows r out → S .place e work rows r' out' → (r ≡ r') × (out ≡ out')
   pub edit : (d e : Design) → SameDesign d e → (c : Edit) (before after after' : List ℕ) (r r' : Handed)
       → S .edit d c before r after → S .edit e c before r' after'
       → (r .reply ≡ r' .reply) × SameDesign (r .design) (r' .design) × (after ≡ after')
-  pub check : (d e : Design) → SameDesign d e → (rows : List ℕ) (r r' : Reply) → S .check d rows r → S .check e rows r' → r ≡ r'
+  pub check : (d e : Design) → SameDesign d e → (rows : List ℕ) (r r' : Reply) → S .check d rows r
+      → S .check e rows r' → r ≡ r'

@@ -33,10 +33,13 @@ pub record Keeping (S : Services) : Type 0 where
   pub list : (d : Design) (before after : List ℕ) (r : Reply) → S .list d before r after → Lists d before r after
   pub plan : (d : Design) (before rows after rows' : List ℕ) (r : Planned) → S .plan d before rows r after rows'
       → Plans d before rows r after rows'
-  pub place : (d : Design) (work rows rows' : List ℕ) (r : Planned) → S .place d work rows r rows' → Places d work rows r rows'
-  pub edit : (d : Design) (e : Edit) (before after : List ℕ) (r : Handed) → S .edit d e before r after → Edits d e before r after
+  pub place : (d : Design) (work rows rows' : List ℕ) (r : Planned) → S .place d work rows r rows'
+      → Places d work rows r rows'
+  pub edit : (d : Design) (e : Edit) (before after : List ℕ) (r : Handed) → S .edit d e before r after
+      → Edits d e before r after
   pub check : (d : Design) (rows : List ℕ) (r : Reply) → S .check d rows r → Checks d rows r
 
 -- the contracts themselves, as services that answer whatever they allow
 abbrev pub contracts : Services
-contracts = record { read = Reads; write = Writes; list = Lists; plan = Plans; place = Places; edit = Edits; check = Checks }
+contracts =
+    record { read = Reads; write = Writes; list = Lists; plan = Plans; place = Places; edit = Edits; check = Checks }

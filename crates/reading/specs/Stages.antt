@@ -46,7 +46,8 @@ withKinds C ks = record { width = C .width; height = C .height; block = C .block
 
 unfoldable pub kindsAt : List ℕ → Design → ℕ → Took Design
 kindsAt s d at =
-    andThen (rowAt (checkedAt lawfulKind BreaksLimits s) (widthOf d) at) λ ks next. took (withChip d (withKinds (d .chip) ks)) next
+    andThen (rowAt (checkedAt lawfulKind BreaksLimits s) (widthOf d) at) λ ks next.
+    took (withChip d (withKinds (d .chip) ks)) next
 
 -- the count of modules, and their needs
 unfoldable pub needsAt : List ℕ → Design → ℕ → Took Design

@@ -17,7 +17,7 @@ use Rattle.rules.specs.Placement.{Placement}
 use Rattle.rules.specs.Slot.{Empty, ListsAt, FullLists, slot, Stairs}
 use Rattle.rules.specs.Choice.{Chosen, Down, beside}
 use Rattle.rules.specs.Edit.{namesPlace, changed, changedNode, Relists, Relisted, EditedLists}
-use Rattle.rules.specs.Design.{Sized, nodes, nodeAt, root, SuitsOf, ListsOf, givenFor, LawfulDesign, SameDesign, slotsOf, AllStairs, OwnLists, rootSlot, GoesDown, widthOf, heightOf, slotRows}
+use Rattle.rules.specs.Design.{Sized, nodes, nodeAt, root, SuitsOf, ListsOf, givenFor, LawfulDesign, SameDesign, slotsOf, AllStairs, OwnLists, rootSlot, GoesDown, widthOf, heightOf, slotRows, NoShapeIn, ChosenIn}
 use Rattle.rules.proofs.Searching.{or-iff, eqb-iff}
 use Rattle.rules.proofs.Below.{Below}
 use Rattle.rules.proofs.Standing.{part-has}
@@ -121,11 +121,11 @@ module _ {d e : Design} (z : SameDesign d e) (work : List ℕ) where
   root-slot-same : rootSlot d (slotsOf d work) ≡ rootSlot e (slotsOf e work)
   root-slot-same = rw (slots-same, nodes-same z)
 
-  pub work-empty : Empty (widthOf d) (rootSlot d (slotsOf d work)) → Empty (widthOf e) (rootSlot e (slotsOf e work))
+  pub work-empty : NoShapeIn d work → Empty (widthOf e) (rootSlot e (slotsOf e work))
   work-empty = subst₂ Empty (width-same z) root-slot-same
 
   pub work-chosen : (s : Shape)
-      → Chosen (widthOf d) (rootSlot d (slotsOf d work)) s → Chosen (widthOf e) (rootSlot e (slotsOf e work)) s
+      → ChosenIn d work s → Chosen (widthOf e) (rootSlot e (slotsOf e work)) s
   work-chosen s = subst₂ (λ W bytes. Chosen W bytes s) (width-same z) root-slot-same
 
 -- an edit's lists; the place that it names has to stand in both designs' arrays

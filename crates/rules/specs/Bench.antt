@@ -58,7 +58,8 @@ Says (slotIs d start bytes) =
 Says (pairsTo d bytes) = PairsTo d bytes (root d)
 Says (plansTo d s rs) =
     (slots : ℕ → Corner → ℕ → ℕ) → OwnLists d slots → Chosen (widthOf d) (rootSlot d slots) s
-    × ((p : Placement) × GoesDown d slots s p) × ((p : Placement) → GoesDown d slots s p → (k : ℕ) → k < length rs → p k ≡ getD rs k (rectangle 0 0 0 0))
+    × ((p : Placement) × GoesDown d slots s p)
+    × ((p : Placement) → GoesDown d slots s p → (k : ℕ) → k < length rs → p k ≡ getD rs k (rectangle 0 0 0 0))
 Says (hasNone d) = (p : Placement) → LawfulPlacement d p → ⊥
 Says (reads s t) = designAt s ≡ t
 
@@ -71,7 +72,8 @@ design kinds h b needs tokens = designFrom (chipFrom (length kinds) h b kinds) (
 
 -- "Chip E: kinds 0 1 2 0 0 four times, H 12, B 3, need (12,1,1)"; D; "four CLB columns, H 4, B 1, one module (12,0,0)"
 unfoldable pub E : Design
-E = design (0 ∷ 1 ∷ 2 ∷ 0 ∷ 0 ∷ 0 ∷ 1 ∷ 2 ∷ 0 ∷ 0 ∷ 0 ∷ 1 ∷ 2 ∷ 0 ∷ 0 ∷ 0 ∷ 1 ∷ 2 ∷ 0 ∷ 0 ∷ []) 12 3 (need 12 1 1 ∷ []) (2 ∷ [])
+E =
+    design (0 ∷ 1 ∷ 2 ∷ 0 ∷ 0 ∷ 0 ∷ 1 ∷ 2 ∷ 0 ∷ 0 ∷ 0 ∷ 1 ∷ 2 ∷ 0 ∷ 0 ∷ 0 ∷ 1 ∷ 2 ∷ 0 ∷ 0 ∷ []) 12 3 (need 12 1 1 ∷ []) (2 ∷ [])
 
 unfoldable pub D : Design
 D = design (0 ∷ 1 ∷ 2 ∷ 0 ∷ 0 ∷ []) 6 3 (need 2 1 0 ∷ need 3 0 1 ∷ []) (2 ∷ 3 ∷ 0 ∷ [])

@@ -101,7 +101,8 @@ needOf s at =
     andThen (numberAt s at) λ a second.
     andThen (numberAt s second) λ b third.
     andThen (numberAt s third) λ c next.
-    let n : Need = record { clbs = a; rams = b; multipliers = c } in judged (lawfulNeed n) (BreaksLimits at) (took n next)
+    let n : Need = record { clbs = a; rams = b; multipliers = c } in
+    judged (lawfulNeed n) (BreaksLimits at) (took n next)
 
 -- 5 at the token; 6 at the length, when the tokens are used up: n more tokens, after t of them, over what stands
 abbrev pub onlyOne : List ℕ → ℕ → List Tree → Took (List ℕ)

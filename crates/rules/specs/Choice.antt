@@ -30,14 +30,16 @@ pairing Horizontal s o = shape (max (s .w .0) (o .w .0)) (s .h .0 + o .h .0)
 
 -- A shape of the left list at a corner and one of the right list beside it have this box. Beyond the chip's last column or
 -- row there is no corner, and so no pair.
-pub record Pair (W H : ℕ) (d : Direction) (lefts rights : Corner → ℕ → ℕ) (c : Corner) (s o whole : Shape) : Type 0 where
+pub record Pair (W H : ℕ) (d : Direction) (lefts rights : Corner → ℕ → ℕ) (c : Corner) (s o whole : Shape)
+    : Type 0 where
   pub left : Stores W (lefts c) s
   pub corner : CornerOn W H (beside d c s)
   pub right : Stores W (rights (beside d c s)) o
   pub box : pairing d s o ≡ whole
 
 -- "takes the first shape of the left list there for which the right list .. has" one; no other right shape is as narrow
-pub record Taken (W H : ℕ) (d : Direction) (lefts rights : Corner → ℕ → ℕ) (c : Corner) (whole s o : Shape) : Type 0 where
+pub record Taken (W H : ℕ) (d : Direction) (lefts rights : Corner → ℕ → ℕ) (c : Corner) (whole s o : Shape)
+    : Type 0 where
   pub pair : Pair W H d lefts rights c s o whole
   pub first : (s' o' : Shape) → Pair W H d lefts rights c s' o' whole → s .w .0 ≤ s' .w .0
   pub only : (o' : Shape) → Pair W H d lefts rights c s o' whole → o .w .0 ≤ o' .w .0

@@ -19,8 +19,8 @@ use Rattle.rules.specs.Search.{all}
 use Rattle.rules.specs.Chip.{corner, kindAt, Suits, SameChip}
 use Rattle.rules.specs.Tree.{Tree, Standing, refused, things, tokenOf, standing, last}
 use Rattle.rules.specs.Placement.{Placement, Lawful}
-use Rattle.rules.specs.Slot.{slot, CornerOn, Stairs, FullLists}
-use Rattle.rules.specs.Choice.{Down}
+use Rattle.rules.specs.Slot.{slot, Empty, CornerOn, Stairs, FullLists}
+use Rattle.rules.specs.Choice.{Chosen, Down}
 
 -- "Limits: W 1..64, H 1..64, B 1..H, kinds 0..2, modules m 1..16, each of a need's three numbers 0..65,535, not all three
 -- zero." The numbers are said here alone, and no law names them.
@@ -155,6 +155,13 @@ OwnLists d slots = FullLists (widthOf d) (heightOf d) (slotRows d) (ListsOf d) (
 -- going down from a shape of the root at (0, 0)
 abbrev pub rootSlot : Design → (ℕ → Corner → ℕ → ℕ) → ℕ → ℕ
 rootSlot d slots = slots (nodes d - 1) (corner 0 0)
+
+-- in work, the root's list at (0, 0) is empty; this shape of it is chosen
+abbrev pub NoShapeIn : Design → List ℕ → Type 0
+NoShapeIn d work = Empty (widthOf d) (rootSlot d (slotsOf d work))
+
+abbrev pub ChosenIn : Design → List ℕ → Shape → Type 0
+ChosenIn d work s = Chosen (widthOf d) (rootSlot d (slotsOf d work)) s
 
 abbrev pub GoesDown : Design → (ℕ → Corner → ℕ → ℕ) → Shape → Placement → Type 0
 GoesDown d slots s p = Down (widthOf d) (heightOf d) (SuitsOf d) (givenFor d) slots (root d) (corner 0 0) s p

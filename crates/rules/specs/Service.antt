@@ -21,9 +21,9 @@ use Rattle.rules.specs.declared.Planned.{Planned}
 use Rattle.rules.specs.declared.Planned.the-variants.{Box}
 use Rattle.rules.specs.declared.Planned.the-variants as planned
 use Rattle.rules.specs.Placement.{Placement}
-use Rattle.rules.specs.Slot.{workNeeded, PastKept, Empty}
-use Rattle.rules.specs.Choice.{Chosen, rowsOut}
-use Rattle.rules.specs.Design.{Sized, nodes, valueTest, LawfulDesign, slotsOf, AllStairs, OwnLists, rootSlot, GoesDown, widthOf, slotRows}
+use Rattle.rules.specs.Slot.{workNeeded, PastKept}
+use Rattle.rules.specs.Choice.{rowsOut}
+use Rattle.rules.specs.Design.{Sized, nodes, valueTest, LawfulDesign, slotsOf, AllStairs, OwnLists, GoesDown, widthOf, slotRows, NoShapeIn, ChosenIn}
 use Rattle.rules.specs.Edit.{namesPlace, changed, EditedLists}
 use Rattle.rules.specs.Bytes.{Took, took, refuse, designBytes, designAt, chipFrom, designFrom}
 use Rattle.rules.specs.Check.{verdict}
@@ -43,7 +43,8 @@ Reads s r = r ≡ handed (designAt s)
 pub record Writes (d : Design) (before : List ℕ) (r : Written) (after : List ℕ) : Type 0 where
   pub sized : Sized d
   pub unlawful : (e : Refusal) → valueTest d ≡ Refused e → (r ≡ written.Refused e) × (after ≡ before)
-  pub short : LawfulDesign d → length before < length (designBytes d) → (r ≡ written.Refused TooShort) × (after ≡ before)
+  pub short : LawfulDesign d → length before < length (designBytes d)
+      → (r ≡ written.Refused TooShort) × (after ≡ before)
   pub done : LawfulDesign d → length (designBytes d) ≤ length before
       → (r ≡ Bytes (length (designBytes d))) × (after ≡ designBytes d ++ drop (length (designBytes d)) before)
 
@@ -65,7 +66,8 @@ pub record Lists (d : Design) (before : List ℕ) (r : Reply) (after : List ℕ)
   pub sized : Sized d
   pub unlawful : (e : Refusal) → valueTest d ≡ Refused e → (r ≡ Refused e) × (after ≡ before)
   pub short : LawfulDesign d → length before < workOf d → (r ≡ Refused TooShort) × (after ≡ before)
-  pub done : LawfulDesign d → workOf d ≤ length before → (r ≡ Done) × PastKept (workOf d) before after × OwnLists d (slotsOf d after)
+  pub done : LawfulDesign d → workOf d ≤ length before
+      → (r ≡ Done) × PastKept (workOf d) before after × OwnLists d (slotsOf d after)
 
 -- plan: 8, 10; "after plan, work holds the full lists"
 pub record Plans (d : Design) (before rows : List ℕ) (r : Planned) (after rows' : List ℕ) : Type 0 where
@@ -74,9 +76,9 @@ pub record Plans (d : Design) (before rows : List ℕ) (r : Planned) (after rows
   pub short : LawfulDesign d → (length before < workOf d) ⊎ (length rows < rowsOf d)
       → (r ≡ planned.Refused TooShort) × (after ≡ before) × (rows' ≡ rows)
   pub listed : Enough d before rows → PastKept (workOf d) before after × OwnLists d (slotsOf d after)
-  pub none : Enough d before rows → Empty (widthOf d) (rootSlot d (slotsOf d after)) → (r ≡ planned.Refused NoPlacement) × (rows' ≡ rows)
+  pub none : Enough d before rows → NoShapeIn d after → (r ≡ planned.Refused NoPlacement) × (rows' ≡ rows)
   pub done : Enough d before rows → (s : Shape) (p : Placement)
-      → Chosen (widthOf d) (rootSlot d (slotsOf d after)) s → GoesDown d (slotsOf d after) s p
+      → ChosenIn d after s → GoesDown d (slotsOf d after) s p
       → (r ≡ Box s) × (rows' ≡ rowsOut (d .modules) p ++ drop (rowsOf d) rows)
 
 -- place: 8, 9, 10. "Place and edit give 9 if any slot of any node is not a stair. Place also gives 9 if a chosen shape has no pair
@@ -84,14 +86,16 @@ pub record Plans (d : Design) (before rows : List ℕ) (r : Planned) (after rows
 pub record Places (d : Design) (work rows : List ℕ) (r : Planned) (rows' : List ℕ) : Type 0 where
   pub sized : Sized d
   pub unlawful : (e : Refusal) → valueTest d ≡ Refused e → (r ≡ planned.Refused e) × (rows' ≡ rows)
-  pub short : LawfulDesign d → (length work < workOf d) ⊎ (length rows < rowsOf d) → (r ≡ planned.Refused TooShort) × (rows' ≡ rows)
-  pub stranger : Enough d work rows → (AllStairs d (slotsOf d work) → ⊥) → (r ≡ planned.Refused Unreliable) × (rows' ≡ rows)
-  pub none : Enough d work rows → AllStairs d (slotsOf d work) → Empty (widthOf d) (rootSlot d (slotsOf d work))
+  pub short : LawfulDesign d → (length work < workOf d) ⊎ (length rows < rowsOf d)
+      → (r ≡ planned.Refused TooShort) × (rows' ≡ rows)
+  pub stranger : Enough d work rows → (AllStairs d (slotsOf d work) → ⊥)
+      → (r ≡ planned.Refused Unreliable) × (rows' ≡ rows)
+  pub none : Enough d work rows → AllStairs d (slotsOf d work) → NoShapeIn d work
       → (r ≡ planned.Refused NoPlacement) × (rows' ≡ rows)
-  pub lost : Enough d work rows → AllStairs d (slotsOf d work) → (s : Shape) → Chosen (widthOf d) (rootSlot d (slotsOf d work)) s
+  pub lost : Enough d work rows → AllStairs d (slotsOf d work) → (s : Shape) → ChosenIn d work s
       → ((p : Placement) → GoesDown d (slotsOf d work) s p → ⊥) → (r ≡ planned.Refused Unreliable) × (rows' ≡ rows)
   pub done : Enough d work rows → AllStairs d (slotsOf d work) → (s : Shape) (p : Placement)
-      → Chosen (widthOf d) (rootSlot d (slotsOf d work)) s → GoesDown d (slotsOf d work) s p
+      → ChosenIn d work s → GoesDown d (slotsOf d work) s p
       → (r ≡ Box s) × (rows' ≡ rowsOut (d .modules) p ++ drop (rowsOf d) rows)
 
 -- edit: 11, 8, 9. "An edit hands the design back with that one change, or unchanged if refused."

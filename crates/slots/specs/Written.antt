@@ -27,7 +27,8 @@ pub record SlotIs (W R t : ℕ) (c : Corner) (f : ℕ → ℕ) (before after : L
 pub record PartIs (W R t : ℕ) (f : Corner → ℕ → ℕ) (done : Corner → Bool) (before after : List ℕ) : Type 0 where
   pub long : length after ≡ length before
   pub inside : (c : Corner) → CornerOn W R c → So (done c) → (j : ℕ) → j < W → slot W R after t c j ≡ f c j
-  pub outside : (i : ℕ) → ((c : Corner) → CornerOn W R c → So (done c) → (j : ℕ) → j < W → slotStart W R t c + j ≡ i → ⊥)
+  pub outside : (i : ℕ)
+      → ((c : Corner) → CornerOn W R c → So (done c) → (j : ℕ) → j < W → slotStart W R t c + j ≡ i → ⊥)
       → getD after i 0 ≡ getD before i 0
 
 -- all slots of node t become f, and all other bytes stay

@@ -30,4 +30,5 @@ pub record WayUp (d : Design) (at : ℕ) (marks : List Bool) : Type 0 where
 
 -- a node's mark, by its token, from its children's
 unfoldable pub markOf : Token → List ℕ → List Bool → ℕ → ℕ → Bool
-markOf token lefts marks t at = eqb at t || (isCut token && (getD marks (getD lefts t 0) false || getD marks (t - 1) false))
+markOf token lefts marks t at =
+    eqb at t || (isCut token && (getD marks (getD lefts t 0) false || getD marks (t - 1) false))

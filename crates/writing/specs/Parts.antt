@@ -12,7 +12,8 @@ abbrev pub byteRow : List ℕ → ℕ → List ℕ
 byteRow row n = rowBytes numberBytes (λ i. getD row i 0) n
 
 unfoldable pub headBytes : Design → List ℕ
-headBytes d = numberBytes 1 ++ (numberBytes (widthOf d) ++ (numberBytes (heightOf d) ++ numberBytes (d .chip .block .0)))
+headBytes d =
+    numberBytes 1 ++ (numberBytes (widthOf d) ++ (numberBytes (heightOf d) ++ numberBytes (d .chip .block .0)))
 
 unfoldable pub modulesBytes : Design → List ℕ
 modulesBytes d =
@@ -24,5 +25,6 @@ widest most = length (numberBytes most)
 
 unfoldable pub designRoom : ℕ
 designRoom =
-    widest 1 + widest mostColumns + widest mostRows + widest mostRows + widest lastKind * mostColumns + widest mostModules
+    widest 1 + widest mostColumns + widest mostRows + widest mostRows + widest lastKind * mostColumns
+    + widest mostModules
     + 3 * widest mostNumber * mostModules + widest (mostModules + 1) * mostTokens
