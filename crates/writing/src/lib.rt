@@ -15,6 +15,7 @@ use numbers::put_number;
 use rules::Design;
 use rules::MOST_COLUMNS;
 use rules::MOST_MODULES;
+use rules::MOST_ROWS;
 use rules::MOST_TOKENS;
 use rules::Need;
 use rules::Refusal;
@@ -24,8 +25,23 @@ use rules::Written;
 // The number that stands first in every design's bytes.
 const FORM_NUMBER: usize = 1;
 
-// The bytes of the longest lawful design: one for each number but those of the needs, which take three.
-const DESIGN_ROOM: usize = 5 + MOST_COLUMNS + 9 * MOST_MODULES + MOST_TOKENS;
+// How many bytes the greatest number of each sort takes. The form number and a kind take one, a number of a need three.
+const COLUMNS_LEN: usize = if MOST_COLUMNS < 128 { 1 } else { 2 };
+
+const ROWS_LEN: usize = if MOST_ROWS < 128 { 1 } else { 2 };
+
+const MODULES_LEN: usize = if MOST_MODULES < 128 { 1 } else { 2 };
+
+const TOKEN_LEN: usize = if MOST_MODULES + 1 < 128 { 1 } else { 2 };
+
+// The bytes of the longest lawful design.
+const DESIGN_ROOM: usize = 1
+    + COLUMNS_LEN
+    + 2 * ROWS_LEN
+    + MOST_COLUMNS
+    + MODULES_LEN
+    + 9 * MOST_MODULES
+    + TOKEN_LEN * MOST_TOKENS;
 
 // How many bytes the longest lawful design takes.
 pub fn design_room() -> usize
