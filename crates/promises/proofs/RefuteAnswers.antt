@@ -3,12 +3,15 @@
 use mathlib.Core.Path.{_≡_, refl, sym, _∙_, ap}
 use mathlib.Core.Logic.{_⊎_, inl, inr, ⊎-elim}
 use mathlib.Core.Bool.{So}
-use mathlib.Core.List.{List, [], _∷_}
-use Prim.Native.Nat.{ℕ, _≤_, _<_}
+use mathlib.Core.List.{List, [], _∷_, _++_}
+use Prim.Native.Nat.{ℕ, zero, suc, _-_, _≤_, _<_}
 use native.Mathlib.Omega.{arith}
 use lib.ListN.{length, getD, replicate, length-replicate, getD-replicate}
+use Rattle.rules.specs.declared.Corner.{Corner}
 use Rattle.rules.specs.declared.Design.{Design}
+use Rattle.rules.specs.declared.Edit.{Edit}
 use Rattle.rules.specs.declared.Edit.the-variants.{Change, Turn}
+use Rattle.rules.specs.declared.Need.{Need}
 use Rattle.rules.specs.declared.Refusal.{Refusal}
 use Rattle.rules.specs.declared.Refusal.the-variants.{Unfinished, Malformed, WrongForm, BreaksLimits, BadToken, ExtraBytes}
 use Rattle.rules.specs.declared.Reply.{Reply}
@@ -18,13 +21,15 @@ use Rattle.rules.specs.declared.Planned.{Planned}
 use Rattle.rules.specs.Search.{all, count, total}
 use Rattle.rules.specs.Chip.{OnChip, corner, shape, column, columnOf, coversBlock, heldBetween, holds}
 use Rattle.rules.specs.Tree.{stands, has, joined, added, standing}
-use Rattle.rules.specs.Slot.{slot}
-use Rattle.rules.specs.Design.{LawfulDesign, LawfulPlacement, SuitsOf, inRange, lawfulNeed, slotsOf, AllStairs, OwnLists, widthOf, slotRows}
-use Rattle.rules.specs.Bytes.{took, refuse, padded, numberBytes, needBytes, rowBytes, designBytes, numberAt, secondByte, thirdByte, checkedAt, rowAt, needOf, tokensAt, designAt}
+use Rattle.rules.specs.Slot.{slot, CornerOn}
+use Rattle.rules.specs.Design.{LawfulDesign, LawfulPlacement, SuitsOf, withinLimits, lawfulChip, inRange, lawfulNeed, slotsOf, AllStairs, OwnLists, widthOf, slotRows}
+use Rattle.rules.specs.Edit.{namesPlace}
+use Rattle.rules.specs.Bytes.{took, refuse, padded, numberBytes, needBytes, rowBytes, designBytes, numberAt, secondByte, thirdByte, checkedAt, rowAt, needOf, tokensAt, designAt, chipFrom, designFrom}
 use Rattle.rules.specs.Check.{fromRows, FirstOff, FirstShort}
 use Rattle.rules.specs.Reply.{Answer, plainly, refusal, answer, writtenAnswer, plannedAnswer}
 use Rattle.rules.specs.Service.{Enough, workOf, rowsOf, zeros}
-use Rattle.rules.specs.Bench.{Says, D, need, bytesEnding}
+use Rattle.rules.specs.Bench.{Says, D, need, design, bytesEnding}
+use Rattle.rules.proofs.Searching.{absurd-so}
 use Rattle.rules.proofs.Choosing.{chosen-once}
 use Rattle.rules.proofs.Floorplans.{own-stairs}
 use Rattle.promises.specs.Services.{Services}
@@ -68,6 +73,13 @@ reads-one-more : (v : ℕ) → designAt (bytesEnding (2 ∷ 3 ∷ 0 ∷ v ∷ []
 unfolding all stands has joined added inRange lawfulNeed numberAt secondByte thirdByte checkedAt rowAt needOf tokensAt designAt
 reads-one-more v = refl
 
+-- D's bytes with W's bytes and B as given; with the bytes of module 0's CLBs, and module 1's CLBs and multipliers
+abbrev pub sized : List ℕ → ℕ → List ℕ
+sized w b = 1 ∷ (w ++ (6 ∷ b ∷ 0 ∷ 1 ∷ 2 ∷ 0 ∷ 0 ∷ 2 ∷ 2 ∷ 1 ∷ 0 ∷ 3 ∷ 0 ∷ 1 ∷ 2 ∷ 3 ∷ 0 ∷ []))
+
+abbrev pub needing : List ℕ → ℕ → ℕ → List ℕ
+needing clbs c m = (1 ∷ 5 ∷ 6 ∷ 3 ∷ 0 ∷ 1 ∷ 2 ∷ 0 ∷ 0 ∷ 2 ∷ []) ++ (clbs ++ (1 ∷ 0 ∷ c ∷ 0 ∷ m ∷ 2 ∷ 3 ∷ 0 ∷ []))
+
 reads-nothing : designAt [] ≡ refuse (Unfinished 0)
 unfolding numberAt checkedAt designAt
 reads-nothing = refl
@@ -84,6 +96,34 @@ no-stairs st =
 stranger-long : length stranger ≡ 450
 unfolding stranger
 stranger-long = length-replicate {A = ℕ} 450 255
+
+-- D with 65 columns, with a need of nothing, with a token for module 2 and with a cut on one thing
+unfoldable pub wide : Design
+wide = designFrom (chipFrom 65 6 3 (0 ∷ 1 ∷ 2 ∷ 0 ∷ 0 ∷ [])) 2 (need 2 1 0 ∷ need 3 0 1 ∷ []) (2 ∷ 3 ∷ 0 ∷ [])
+
+unfoldable pub altered : List Need → List ℕ → Design
+altered needs tokens = design (0 ∷ 1 ∷ 2 ∷ 0 ∷ 0 ∷ []) 6 3 needs tokens
+
+wide-breaks-limits : So (withinLimits wide) → ⊥
+unfolding wide padded all withinLimits lawfulChip inRange lawfulNeed
+wide-breaks-limits = absurd-so
+
+idle-breaks-limits : So (withinLimits (altered (need 2 1 0 ∷ need 0 0 0 ∷ []) (2 ∷ 3 ∷ 0 ∷ []))) → ⊥
+unfolding altered padded all withinLimits lawfulChip inRange lawfulNeed
+idle-breaks-limits = absurd-so
+
+-- which edits name no place of D: a leaf, a place past the tokens, module 2
+names-no-leaf : So (namesPlace D (Turn 0)) → ⊥
+unfolding D slotRows padded namesPlace
+names-no-leaf = absurd-so
+
+names-none-past : So (namesPlace D (Turn 3)) → ⊥
+unfolding D slotRows padded namesPlace
+names-none-past = absurd-so
+
+names-no-module-2 : So (namesPlace D (Change 2 (need 1 0 0))) → ⊥
+unfolding D slotRows padded namesPlace
+names-no-module-2 = absurd-so
 
 -- module 0 of D in the rows 1 to 3 holds no RAM block
 pub half-not-suited : SuitsOf D 0 (fromRows half-block 0) → ⊥
@@ -112,12 +152,69 @@ module _ (S : Services) (demand : Demand1.Demand1 S) where
       let a = reader-takes-nothing r x in let q = demand .leaving .read [] r x (λ n. let z = ap (λ b. b .number) a in omega arith) in
       let z = ap (λ d. widthOf d) (sym e ∙ q) in omega arith
 
+  -- D's bytes with one number otherwise: W in two bytes or in three where one would do; 65 columns; a block higher than the chip; 65,536; a
+  -- need of nothing; a cut on one thing; the module after the last. They are let through, or refused at the byte at fault or the next number
+  pub reader-takes-two-bytes-for-one : (r : Handed) → S .read (sized (133 ∷ 0 ∷ []) 3) r → answer (r .reply) ≡ plainly 2 1
+  unfolding inRange numberAt secondByte thirdByte checkedAt designAt
+  reader-takes-two-bytes-for-one r x = read-refused {e = Malformed 1} refl (demand .numbered .read _ r x)
+
+  pub reader-takes-three-bytes-for-two : (r : Handed) → S .read (sized (133 ∷ 128 ∷ 0 ∷ []) 3) r → answer (r .reply) ≡ plainly 2 1
+  unfolding inRange numberAt secondByte thirdByte checkedAt designAt
+  reader-takes-three-bytes-for-two r x = read-refused {e = Malformed 1} refl (demand .numbered .read _ r x)
+
+  pub reader-takes-65-columns : (r : Handed) → S .read (sized (65 ∷ []) 3) r → answer (r .reply) ≡ plainly 4 1
+  unfolding inRange numberAt secondByte thirdByte checkedAt designAt
+  reader-takes-65-columns r x = read-refused {e = BreaksLimits 1} refl (demand .numbered .read _ r x)
+
+  pub reader-takes-a-tall-block : (r : Handed) → S .read (sized (5 ∷ []) 7) r → answer (r .reply) ≡ plainly 4 3
+  unfolding inRange numberAt secondByte thirdByte checkedAt designAt
+  reader-takes-a-tall-block r x = read-refused {e = BreaksLimits 3} refl (demand .numbered .read _ r x)
+
+  pub reader-takes-65536 : (r : Handed) → S .read (needing (128 ∷ 128 ∷ 4 ∷ []) 3 1) r → answer (r .reply) ≡ plainly 2 10
+  unfolding inRange lawfulNeed numberAt secondByte thirdByte checkedAt rowAt needOf designAt
+  reader-takes-65536 r x = read-refused {e = Malformed 10} refl (demand .numbered .read _ r x)
+
+  pub reader-takes-a-zero-need : (r : Handed) → S .read (needing (2 ∷ []) 0 0) r → answer (r .reply) ≡ plainly 4 13
+  unfolding inRange lawfulNeed numberAt secondByte thirdByte checkedAt rowAt needOf designAt
+  reader-takes-a-zero-need r x = read-refused {e = BreaksLimits 13} refl (demand .numbered .read _ r x)
+
+  pub reader-joins-one-thing : (r : Handed) → S .read (bytesEnding (2 ∷ 0 ∷ 3 ∷ [])) r → answer (r .reply) ≡ plainly 5 17
+  unfolding stands has joined added inRange lawfulNeed numberAt secondByte thirdByte checkedAt rowAt needOf tokensAt designAt
+  reader-joins-one-thing r x = read-refused {e = BadToken 17} refl (demand .numbered .read _ r x)
+
+  pub reader-takes-module-m : (r : Handed) → S .read (bytesEnding (2 ∷ 4 ∷ 0 ∷ [])) r → answer (r .reply) ≡ plainly 5 17
+  unfolding stands has joined added inRange lawfulNeed numberAt secondByte thirdByte checkedAt rowAt needOf tokensAt designAt
+  reader-takes-module-m r x = read-refused {e = BadToken 17} refl (demand .numbered .read _ r x)
+
+  -- a refusal that hands back a chip of some width
+  pub reader-hands-back-a-column : (r : Handed) → S .read [] r → widthOf (r .design) ≡ 0
+  unfolding zeros
+  reader-hands-back-a-column r x =
+      let a = reader-takes-nothing r x in let q = demand .leaving .read [] r x (λ n. let z = ap (λ b. b .number) a in omega arith) in rw q
+
   -- write: an unlawful design written, D refused with room, or written in part where it does not fit
   pub writer-takes-a-tall-block : (before after : List ℕ) (r : Written) → S .write tall before r after → writtenAnswer r ≡ plainly 4 0
   writer-takes-a-tall-block before after r x = gets-4 tall-breaks-limits (demand .numbered .write tall before after r x)
 
   pub writer-takes-a-module-twice : (before after : List ℕ) (r : Written) → S .write twice before r after → writtenAnswer r ≡ plainly 5 0
   writer-takes-a-module-twice before after r x = gets-5 twice-bad-token (demand .numbered .write twice before after r x)
+
+  pub writer-takes-65-columns : (before after : List ℕ) (r : Written) → S .write wide before r after → writtenAnswer r ≡ plainly 4 0
+  writer-takes-65-columns before after r x = gets-4 wide-breaks-limits (demand .numbered .write wide before after r x)
+
+  pub writer-takes-a-zero-need : (before after : List ℕ) (r : Written)
+      → S .write (altered (need 2 1 0 ∷ need 0 0 0 ∷ []) (2 ∷ 3 ∷ 0 ∷ [])) before r after → writtenAnswer r ≡ plainly 4 0
+  writer-takes-a-zero-need before after r x = gets-4 idle-breaks-limits (demand .numbered .write _ before after r x)
+
+  pub writer-takes-module-m : (before after : List ℕ) (r : Written)
+      → S .write (altered (need 2 1 0 ∷ need 3 0 1 ∷ []) (2 ∷ 4 ∷ 0 ∷ [])) before r after → writtenAnswer r ≡ plainly 5 0
+  unfolding altered padded all withinLimits lawfulChip inRange lawfulNeed stands has joined added standing
+  writer-takes-module-m before after r x = gets-5 (refl, refl) (demand .numbered .write _ before after r x)
+
+  pub writer-joins-one-thing : (before after : List ℕ) (r : Written)
+      → S .write (altered (need 2 1 0 ∷ need 3 0 1 ∷ []) (2 ∷ 0 ∷ 3 ∷ [])) before r after → writtenAnswer r ≡ plainly 5 0
+  unfolding altered padded all withinLimits lawfulChip inRange lawfulNeed stands has joined added standing
+  writer-joins-one-thing before after r x = gets-5 (refl, refl) (demand .numbered .write _ before after r x)
 
   pub writer-refuses-all : (before after : List ℕ) (r : Written) → 19 ≤ length before → S .write D before r after → writtenAnswer r ≡ plainly 0 19
   writer-refuses-all before after r h x = go (of-lawful D-lawful (demand .numbered .write D before after r x))
@@ -190,20 +287,56 @@ module _ (S : Services) (demand : Demand1.Demand1 S) where
       f (demand .leaving .plan starved before rows after rows' r x (λ n. absurd (omega arith)) .work-listed e .1)
 
   -- place: a stranger's bytes not tested, or rows written all the same
+  strange-placed : (work rows rows' : List ℕ) (r : Planned) → 450 ≤ length work → 8 ≤ length rows → (AllStairs D (slotsOf D work) → ⊥)
+      → S .place D work rows r rows' → (plannedAnswer r ≡ plainly 9 0) × (rows' ≡ rows)
+  unfolding D slotRows
+  strange-placed work rows rows' r l h f x =
+      let a = go (of-lawful D-lawful (demand .numbered .place D work rows rows' r x)) in
+      (a, demand .leaving .place D work rows rows' r x (λ n. let z = ap (λ b. b .number) a in omega arith))
+    where
+      go : {a : Answer} → Demand1.PlaceNumbered D work rows rows' a → a ≡ plainly 9 0
+      go (Demand1.short (inl k)) = absurd (omega arith)
+      go (Demand1.short (inr k)) = absurd (omega arith)
+      go (Demand1.stranger _ _) = refl
+      go (Demand1.none _ st _) = absurd (f st)
+      go (Demand1.lost _ st _ _) = absurd (f st)
+      go (Demand1.done _ st _) = absurd (f st)
+
   pub placer-skips-the-stair-test : (rows rows' : List ℕ) (r : Planned) → 8 ≤ length rows → S .place D stranger rows r rows'
       → (plannedAnswer r ≡ plainly 9 0) × (rows' ≡ rows)
+  placer-skips-the-stair-test rows rows' r h = let e = stranger-long in strange-placed stranger rows rows' r (omega arith) h no-stairs
+
+  -- one byte, in whatever slot of whatever node: over the rows above it; at a width over the columns; as high as an earlier one
+  module _ (work rows rows' : List ℕ) (r : Planned) (l : 450 ≤ length work) (h : 8 ≤ length rows) (x : S .place D work rows r rows')
+      (t : ℕ) (c : Corner) (b : t < 3) (on : CornerOn 5 6 c) where
+    pub placer-misses-a-height : (j : ℕ) → j < 5 → 6 - c .y .0 < slotsOf D work t c j → plannedAnswer r ≡ plainly 9 0
+    unfolding D slotRows
+    placer-misses-a-height j k o = strange-placed work rows rows' r l h (λ st. let z = st t c b on .rows j k in omega arith) x .0
+
+    pub placer-misses-a-width : (j : ℕ) → j < 5 → 5 - c .x .0 ≤ j → 0 < slotsOf D work t c j → plannedAnswer r ≡ plainly 9 0
+    unfolding D slotRows
+    placer-misses-a-width j k w o = strange-placed work rows rows' r l h (λ st. let z = st t c b on .columns j k (omega arith) in omega arith) x .0
+
+    pub placer-misses-a-level : (i j : ℕ) → i < j → j < 5 → 0 < slotsOf D work t c i → slotsOf D work t c i ≤ slotsOf D work t c j
+        → plannedAnswer r ≡ plainly 9 0
+    unfolding D slotRows
+    placer-misses-a-level i j p k q o =
+        strange-placed work rows rows' r l h (λ st. let z = st t c b on .fall i j p k q (omega arith) in omega arith) x .0
+
+  -- 10 where the root holds a shape, and going down from it fails
+  pub placer-says-none-when-lost : (work rows rows' : List ℕ) (r : Planned) (j : ℕ) → j < 5 → 0 < slotsOf D work 2 (corner 0 0) j
+      → S .place D work rows r rows' → plannedAnswer r .number ≡ 10 → ⊥
   unfolding D slotRows
-  placer-skips-the-stair-test rows rows' r h x =
-      let a = go (of-lawful D-lawful (demand .numbered .place D stranger rows rows' r x)) in
-      (a, demand .leaving .place D stranger rows rows' r x (λ n. let z = ap (λ b. b .number) a in omega arith))
+  placer-says-none-when-lost work rows rows' r j h p x e = go (of-lawful D-lawful (demand .numbered .place D work rows rows' r x)) e
     where
-      go : {a : Answer} → Demand1.PlaceNumbered D stranger rows rows' a → a ≡ plainly 9 0
-      go (Demand1.short (inl l)) = let e = stranger-long in absurd (omega arith)
-      go (Demand1.short (inr l)) = absurd (omega arith)
-      go (Demand1.stranger _ _) = refl
-      go (Demand1.none _ st _) = absurd (no-stairs st)
-      go (Demand1.lost _ st _ _) = absurd (no-stairs st)
-      go (Demand1.done _ st _) = absurd (no-stairs st)
+      go : {a : Answer} → Demand1.PlaceNumbered D work rows rows' a → a .number ≡ 10 → ⊥
+      go (Demand1.short _) e = omega arith
+      go (Demand1.stranger _ _) e = omega arith
+      go (Demand1.none _ _ f) e =
+          let q : suc j - 1 ≡ j = omega arith in f (shape (suc j) (slotsOf D work 2 (corner 0 0) j))
+          (record { wide = omega arith; within = omega arith; high = p; byte = ap (λ i. slotsOf D work 2 (corner 0 0) i) q })
+      go (Demand1.lost _ _ _ _) e = omega arith
+      go (Demand1.done _ _ _) e = omega arith
 
   -- over D's own lists there is a shape to choose, and one goes down from it: neither 10 nor 9
   pub placer-finds-nothing : (work rows rows' : List ℕ) (r : Planned) → OwnLists D (slotsOf D work) → S .place D work rows r rows'
@@ -230,48 +363,72 @@ module _ (S : Services) (demand : Demand1.Demand1 S) where
       go (Demand1.lost _ _ _ _) e = omega arith
       go (Demand1.done _ _ l) e = half-not-lawful l
 
-  -- edit: the all-zero need granted, or the design changed with the refusal; a stranger's bytes not tested; too few bytes let through
-  pub edit-grants-zero-need : (work after : List ℕ) (r : Handed) → S .edit D (Change 0 (need 0 0 0)) work r after
+  -- edit: the all-zero need granted, or the design changed with the refusal; a leaf turned, or a place past the tokens; module 2 of 0 and 1
+  unnamed : (e : Edit) → (So (namesPlace D e) → ⊥) → (work after : List ℕ) (r : Handed) → S .edit D e work r after
       → (answer (r .reply) ≡ plainly 11 0) × (r .design ≡ D) × (after ≡ work)
-  edit-grants-zero-need work after r x =
+  unnamed e f work after r x =
+      let a = go (of-lawful D-lawful (demand .numbered .edit D e work after r x)) in
+      let (b, c) = demand .leaving .edit D e work after r x (λ n. let z = ap (λ b. b .number) a in omega arith) in (a, b, c)
+    where
+      go : {a : Answer} → Demand1.EditNumbered D e work a → a ≡ plainly 11 0
+      go (Demand1.unnamed _) = refl
+      go (Demand1.short n _) = absurd (f n)
+      go (Demand1.stranger n _ _) = absurd (f n)
+      go (Demand1.done n _ _) = absurd (f n)
+
+  module _ (work after : List ℕ) (r : Handed) where
+    pub edit-grants-zero-need : S .edit D (Change 0 (need 0 0 0)) work r after → (answer (r .reply) ≡ plainly 11 0) × (r .design ≡ D) × (after ≡ work)
+    edit-grants-zero-need = unnamed _ names-no-zero-need work after r
+
+    pub edit-turns-a-leaf : S .edit D (Turn 0) work r after → (answer (r .reply) ≡ plainly 11 0) × (r .design ≡ D) × (after ≡ work)
+    edit-turns-a-leaf = unnamed _ names-no-leaf work after r
+
+    pub edit-turns-past-the-tokens : S .edit D (Turn 3) work r after → (answer (r .reply) ≡ plainly 11 0) × (r .design ≡ D) × (after ≡ work)
+    edit-turns-past-the-tokens = unnamed _ names-none-past work after r
+
+    pub edit-names-module-m : S .edit D (Change 2 (need 1 0 0)) work r after → (answer (r .reply) ≡ plainly 11 0) × (r .design ≡ D) × (after ≡ work)
+    edit-names-module-m = unnamed _ names-no-module-2 work after r
+
+  -- a stranger's bytes not tested, also where only one byte is wrong; too few bytes let through, or called unreliable
+  strange-edited : (work after : List ℕ) (r : Handed) → 450 ≤ length work → (AllStairs D (slotsOf D work) → ⊥) → S .edit D (Turn 2) work r after
+      → (answer (r .reply) ≡ plainly 9 0) × (r .design ≡ D) × (after ≡ work)
+  unfolding D slotRows
+  strange-edited work after r h f x =
       let a = go (of-lawful D-lawful (demand .numbered .edit D _ work after r x)) in
       let (b, c) = demand .leaving .edit D _ work after r x (λ n. let z = ap (λ b. b .number) a in omega arith) in (a, b, c)
     where
-      go : {a : Answer} → Demand1.EditNumbered D (Change 0 (need 0 0 0)) work a → a ≡ plainly 11 0
-      go (Demand1.unnamed _) = refl
-      go (Demand1.short n _) = absurd (names-no-zero-need n)
-      go (Demand1.stranger n _ _) = absurd (names-no-zero-need n)
-      go (Demand1.done n _ _) = absurd (names-no-zero-need n)
+      go : {a : Answer} → Demand1.EditNumbered D (Turn 2) work a → a ≡ plainly 9 0
+      go (Demand1.unnamed g) = absurd (g names-turned)
+      go (Demand1.short _ l) = absurd (omega arith)
+      go (Demand1.stranger _ _ _) = refl
+      go (Demand1.done _ _ st) = absurd (f st)
 
   pub edit-skips-the-stair-test : (after : List ℕ) (r : Handed) → S .edit D (Turn 2) stranger r after
       → (answer (r .reply) ≡ plainly 9 0) × (r .design ≡ D) × (after ≡ stranger)
-  unfolding D slotRows
-  edit-skips-the-stair-test after r x =
-      let a = go (of-lawful D-lawful (demand .numbered .edit D _ stranger after r x)) in
-      let (b, c) = demand .leaving .edit D _ stranger after r x (λ n. let z = ap (λ b. b .number) a in omega arith) in (a, b, c)
-    where
-      go : {a : Answer} → Demand1.EditNumbered D (Turn 2) stranger a → a ≡ plainly 9 0
-      go (Demand1.unnamed f) = absurd (f names-turned)
-      go (Demand1.short _ l) = let e = stranger-long in absurd (omega arith)
-      go (Demand1.stranger _ _ _) = refl
-      go (Demand1.done _ _ st) = absurd (no-stairs st)
+  edit-skips-the-stair-test after r = let e = stranger-long in strange-edited stranger after r (omega arith) no-stairs
 
-  pub edit-takes-few-bytes : (after : List ℕ) (r : Handed) → S .edit D (Turn 2) [] r after → answer (r .reply) ≡ plainly 8 0
+  pub edit-misses-a-height : (work after : List ℕ) (r : Handed) (t : ℕ) (c : Corner) (j : ℕ) → 450 ≤ length work → t < 3 → CornerOn 5 6 c → j < 5
+      → 6 - c .y .0 < slotsOf D work t c j → S .edit D (Turn 2) work r after → answer (r .reply) ≡ plainly 9 0
   unfolding D slotRows
-  edit-takes-few-bytes after r x = go (of-lawful D-lawful (demand .numbered .edit D _ [] after r x))
+  edit-misses-a-height work after r t c j h b on k o x =
+      strange-edited work after r h (λ st. let z = st t c b on .rows j k in omega arith) x .0
+
+  pub edit-takes-few-bytes : (work after : List ℕ) (r : Handed) → length work < 450 → S .edit D (Turn 2) work r after → answer (r .reply) ≡ plainly 8 0
+  unfolding D slotRows
+  edit-takes-few-bytes work after r h x = go (of-lawful D-lawful (demand .numbered .edit D _ work after r x))
     where
-      go : {a : Answer} → Demand1.EditNumbered D (Turn 2) [] a → a ≡ plainly 8 0
+      go : {a : Answer} → Demand1.EditNumbered D (Turn 2) work a → a ≡ plainly 8 0
       go (Demand1.unnamed f) = absurd (f names-turned)
       go (Demand1.short _ _) = refl
       go (Demand1.stranger _ l _) = absurd (omega arith)
       go (Demand1.done _ l _) = absurd (omega arith)
 
   -- check: a module over the chip's side passed, or another named; a block covered in part counted; too few rows let through
-  pub checker-takes-few-rows : (r : Reply) → S .check D [] r → answer r ≡ plainly 8 0
+  pub checker-takes-few-rows : (rows : List ℕ) (r : Reply) → length rows < 8 → S .check D rows r → answer r ≡ plainly 8 0
   unfolding D slotRows
-  checker-takes-few-rows r x = go (of-lawful D-lawful (demand .numbered .check D [] r x))
+  checker-takes-few-rows rows r h x = go (of-lawful D-lawful (demand .numbered .check D rows r x))
     where
-      go : {a : Answer} → Demand1.CheckNumbered D [] a → a ≡ plainly 8 0
+      go : {a : Answer} → Demand1.CheckNumbered D rows a → a ≡ plainly 8 0
       go (Demand1.short _) = refl
       go (Demand1.off-the-chip l _) = absurd (omega arith)
       go (Demand1.short-of-need l _) = absurd (omega arith)
@@ -300,6 +457,30 @@ module _ (S : Services) (demand : Demand1.Demand1 S) where
       go : {a : Answer} → Demand1.CheckNumbered D over-the-side a → a ≡ plainly 12 0 → ⊥
       go (Demand1.short _) e = let z = ap (λ b. b .number) e in omega arith
       go (Demand1.off-the-chip {k = k} _ f) e = let z : k ≡ 0 = ap (λ b. b .value) e in (rw z at f) .fault on
+      go (Demand1.short-of-need _ _) e = let z = ap (λ b. b .number) e in omega arith
+      go (Demand1.cut-not-kept _ _) e = let z = ap (λ b. b .number) e in omega arith
+      go (Demand1.done _ _) e = let z = ap (λ b. b .number) e in omega arith
+
+  -- 13 before 12: module 1 is off the chip, whatever it holds there
+  pub checker-calls-it-short : (r : Reply) → S .check D over-the-side r → answer r ≡ plainly 13 1 → ⊥
+  unfolding D slotRows fromRows
+  checker-calls-it-short r x e = go (of-lawful D-lawful (demand .numbered .check D over-the-side r x)) e
+    where
+      go : {a : Answer} → Demand1.CheckNumbered D over-the-side a → a ≡ plainly 13 1 → ⊥
+      go (Demand1.short _) e = let z = ap (λ b. b .number) e in omega arith
+      go (Demand1.off-the-chip _ _) e = let z = ap (λ b. b .number) e in omega arith
+      go (Demand1.short-of-need {k = k} _ f) e = let z : k ≡ 1 = ap (λ b. b .value) e in let c = (rw z at f) .on-chip .columns in omega arith
+      go (Demand1.cut-not-kept _ _) e = let z = ap (λ b. b .number) e in omega arith
+      go (Demand1.done _ _) e = let z = ap (λ b. b .number) e in omega arith
+
+  -- the number of the module after it: there is none
+  pub checker-names-the-next : (r : Reply) → S .check D over-the-side r → answer r ≡ plainly 12 2 → ⊥
+  unfolding D slotRows
+  checker-names-the-next r x e = go (of-lawful D-lawful (demand .numbered .check D over-the-side r x)) e
+    where
+      go : {a : Answer} → Demand1.CheckNumbered D over-the-side a → a ≡ plainly 12 2 → ⊥
+      go (Demand1.short _) e = let z = ap (λ b. b .number) e in omega arith
+      go (Demand1.off-the-chip {k = k} _ f) e = let z : k ≡ 2 = ap (λ b. b .value) e in let b = f .below in omega arith
       go (Demand1.short-of-need _ _) e = let z = ap (λ b. b .number) e in omega arith
       go (Demand1.cut-not-kept _ _) e = let z = ap (λ b. b .number) e in omega arith
       go (Demand1.done _ _) e = let z = ap (λ b. b .number) e in omega arith
