@@ -21,7 +21,7 @@ use Rattle.rules.specs.Bytes.{padded}
 use Rattle.rules.specs.Check.{fromRows, isOnChip, isAtMost, isKept, judgedCuts, judgedRows, verdict}
 use Rattle.rules.specs.Reply.{Answer, plainly}
 use Rattle.rules.specs.Service.{Enough}
-use Rattle.rules.specs.Bench.{Example, lists, plansTo, hasNone, Says, AllSay, table, D, need, design}
+use Rattle.rules.specs.Bench.{Example, lists, slotIs, plansTo, hasNone, Says, AllSay, table, D, four, need, design}
 use Rattle.rules.proofs.Searching.{absurd-so}
 use Rattle.rules.proofs.Nodes.{lawful-iff}
 use Rattle.rules.proofs.Bench.{table-holds}
@@ -112,6 +112,18 @@ turned-list = row table table-holds 10
 pub grown-plan : Says (plansTo grown (shape 5 3) [])
 unfolding table SaysAt
 grown-plan = row table table-holds 14
+
+pub D-slot : Says (slotIs D 300 (0 ∷ 0 ∷ 0 ∷ 3 ∷ 0 ∷ []))
+unfolding table SaysAt
+D-slot = row table table-holds 7
+
+pub grown-slot : Says (slotIs grown 300 (0 ∷ 0 ∷ 0 ∷ 4 ∷ 3 ∷ []))
+unfolding table SaysAt
+grown-slot = row table table-holds 12
+
+pub four-plan : Says (plansTo four (shape 3 4) (rectangle 0 0 3 4 ∷ []))
+unfolding table SaysAt
+four-plan = row table table-holds 17
 
 pub starved-none : (p : Placement) → LawfulPlacement starved p → ⊥
 unfolding table SaysAt Says
