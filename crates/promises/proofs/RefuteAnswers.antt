@@ -18,20 +18,26 @@ use Rattle.rules.specs.declared.Reply.{Reply}
 use Rattle.rules.specs.declared.Handed.{Handed}
 use Rattle.rules.specs.declared.Written.{Written}
 use Rattle.rules.specs.declared.Planned.{Planned}
-use Rattle.rules.specs.Search.{all, count, total}
+use Rattle.rules.specs.Search.{any, all, least, count, total}
 use Rattle.rules.specs.Chip.{OnChip, corner, shape, column, columnOf, coversBlock, heldBetween, holds}
 use Rattle.rules.specs.Tree.{stands, has, joined, added, standing}
+use Rattle.rules.specs.Placement.{Placement}
 use Rattle.rules.specs.Slot.{slot, CornerOn}
-use Rattle.rules.specs.Design.{LawfulDesign, LawfulPlacement, SuitsOf, withinLimits, lawfulChip, inRange, lawfulNeed, slotsOf, AllStairs, OwnLists, widthOf, slotRows}
+use Rattle.rules.specs.Choice.{Chosen}
+use Rattle.rules.specs.Design.{LawfulDesign, LawfulPlacement, SuitsOf, withinLimits, lawfulChip, inRange, lawfulNeed, root, slotsOf, AllStairs, OwnLists, rootSlot, GoesDown, widthOf, slotRows}
 use Rattle.rules.specs.Edit.{namesPlace}
 use Rattle.rules.specs.Bytes.{took, refuse, padded, numberBytes, needBytes, rowBytes, designBytes, numberAt, secondByte, thirdByte, checkedAt, rowAt, needOf, tokensAt, designAt, chipFrom, designFrom}
-use Rattle.rules.specs.Check.{fromRows, FirstOff, FirstShort}
+use Rattle.rules.specs.Check.{fromRows, isAtMost, isSuited, FirstOff, FirstShort}
 use Rattle.rules.specs.Reply.{Answer, plainly, refusal, answer, writtenAnswer, plannedAnswer}
 use Rattle.rules.specs.Service.{Enough, workOf, rowsOf, zeros}
 use Rattle.rules.specs.Bench.{Says, D, need, design, bytesEnding}
 use Rattle.rules.proofs.Searching.{absurd-so}
-use Rattle.rules.proofs.Choosing.{chosen-once}
-use Rattle.rules.proofs.Floorplans.{own-stairs}
+use Rattle.rules.proofs.Test.{isStair, areStairs, bestWidth, meets, leftIndex, rightIndex, hasPair, goesDown}
+use Rattle.rules.proofs.Stairs.{stairs-iff}
+use Rattle.rules.proofs.Nodes.{lawful-tree}
+use Rattle.rules.proofs.Descending.{laid-down}
+use Rattle.rules.proofs.Choosing.{chosen-once, chooses-this}
+use Rattle.rules.proofs.Floorplans.{own-stairs, suited-decides}
 use Rattle.promises.specs.Services.{Services}
 use Rattle.promises.specs.Demand1
 use Rattle.promises.proofs.Inputs.{D-lawful, D-plan, D-enough, tall, tall-breaks-limits, twice, twice-bad-token, names-turned, names-no-zero-need, starved, half-block, over-the-side, printed, printed-lawful, of-lawful, gets-4, gets-5}
@@ -96,6 +102,25 @@ no-stairs st =
 stranger-long : length stranger ≡ 450
 unfolding stranger
 stranger-long = length-replicate {A = ℕ} 450 255
+
+-- A stranger's stairs for D: the root at (0, 0) holds (5, 6); two shapes of module 0 there have a pair with that box, (2, 6) with module 1's (3, 5)
+-- at column 2, and (3, 5) with its (2, 6) at column 3, where there is no multiplier. Going down takes the first.
+unfoldable pub two-pairs : List ℕ
+two-pairs = 0 ∷ 6 ∷ 5 ∷ (replicate 159 0 ++ (5 ∷ 0 ∷ 0 ∷ 0 ∷ 6 ∷ (replicate 137 0 ++ (6 ∷ replicate 145 0))))
+
+two-pairs-stairs : AllStairs D (slotsOf D two-pairs)
+unfolding D slotRows two-pairs slot all isStair areStairs
+two-pairs-stairs = stairs-iff 5 6 6 3 (slotsOf D two-pairs) .0 refl
+
+two-pairs-chosen : Chosen 5 (rootSlot D (slotsOf D two-pairs)) (shape 5 6)
+unfolding D slotRows two-pairs slot bestWidth
+two-pairs-chosen = chooses-this 5 (rootSlot D (slotsOf D two-pairs)) (shape 5 6) (omega arith) refl refl
+
+two-pairs-down : (p : Placement) × GoesDown D (slotsOf D two-pairs) (shape 5 6) p
+unfolding D slotRows two-pairs slot padded any all least count total stands has joined added standing columnOf coversBlock heldBetween holds column
+    isAtMost meets leftIndex rightIndex hasPair goesDown
+two-pairs-down =
+    (_, laid-down 5 6 (SuitsOf D) (slotsOf D two-pairs) (isSuited D) (suited-decides D) (root D) (lawful-tree D D-lawful .once) (corner 0 0) (shape 5 6) refl)
 
 -- D with 65 columns, with a need of nothing, with a token for module 2 and with a cut on one thing
 unfoldable pub wide : Design
@@ -336,6 +361,19 @@ module _ (S : Services) (demand : Demand1.Demand1 S) where
           let q : suc j - 1 ≡ j = omega arith in f (shape (suc j) (slotsOf D work 2 (corner 0 0) j))
           (record { wide = omega arith; within = omega arith; high = p; byte = ap (λ i. slotsOf D work 2 (corner 0 0) i) q })
       go (Demand1.lost _ _ _ _) e = omega arith
+      go (Demand1.done _ _ _) e = omega arith
+
+  -- a placer that takes the last left shape that has a pair, and finds that the right one does not suit
+  pub placer-takes-the-last-pair : (rows rows' : List ℕ) (r : Planned) → S .place D two-pairs rows r rows' → plannedAnswer r .number ≡ 9 → ⊥
+  unfolding D
+  placer-takes-the-last-pair rows rows' r x e = go (of-lawful D-lawful (demand .numbered .place D two-pairs rows rows' r x)) e
+    where
+      go : {a : Answer} → Demand1.PlaceNumbered D two-pairs rows rows' a → a .number ≡ 9 → ⊥
+      go (Demand1.short _) e = omega arith
+      go (Demand1.stranger _ f) e = f two-pairs-stairs
+      go (Demand1.none _ _ _) e = omega arith
+      go (Demand1.lost _ _ ch f) e =
+          let (p, down) = two-pairs-down in let q = chosen-once _ _ _ _ two-pairs-chosen ch in f p (rw q at down)
       go (Demand1.done _ _ _) e = omega arith
 
   -- over D's own lists there is a shape to choose, and one goes down from it: neither 10 nor 9

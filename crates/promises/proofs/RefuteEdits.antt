@@ -20,9 +20,9 @@ use Rattle.rules.specs.declared.Planned.{Planned}
 use Rattle.rules.specs.Search.{any, least, count, total}
 use Rattle.rules.specs.Chip.{corner, shape, rectangle, column, columnOf, coversBlock, heldBetween}
 use Rattle.rules.specs.Tree.{spans, stands, has, joined, added, standing}
-use Rattle.rules.specs.Shape.{ShapeAt, Listed}
-use Rattle.rules.specs.Slot.{slot, Stores}
-use Rattle.rules.specs.Design.{needAt, tokenAt, ListsOf, root, nodeAt, slotsOf, LawfulDesign, slotRows}
+use Rattle.rules.specs.Shape.{ShapeAt, Listed, Realizes}
+use Rattle.rules.specs.Slot.{slot, Stores, CornerOn}
+use Rattle.rules.specs.Design.{needAt, tokenAt, ListsOf, root, nodeAt, slotsOf, LawfulDesign, slotRows, SuitsOf, AllStairs}
 use Rattle.rules.specs.Edit.{other, changed, changedNode}
 use Rattle.rules.specs.Bytes.{padded, numberBytes, needBytes, rowBytes, designBytes}
 use Rattle.rules.specs.Reply.{answer, writtenAnswer, plannedAnswer}
@@ -34,11 +34,11 @@ use Rattle.rules.proofs.Fitting.{realizes-fits}
 use Rattle.rules.proofs.Suiting.{design-decides}
 use Rattle.rules.proofs.Changing.{edit-lawful}
 use Rattle.rules.proofs.Same.{names-same}
-use Rattle.promises.specs.Services.{Services}
+use Rattle.promises.specs.Services.{Services, Keeping}
 use Rattle.promises.specs.Demand2.{GoodLists, Demand2}
 use Rattle.promises.specs.Demand3.{Run, listed, planned, edited, saved, SameSizes, NeedChanged, CutTurned, Demand3}
 use Rattle.promises.proofs.Inputs.{D-lawful, turned, grown, turned-list, names-turned, names-grown, names-no-zero-need}
-use Rattle.promises.proofs.RefutePlans.{never-empty}
+use Rattle.promises.proofs.RefutePlans.{never-empty, grown-root-bytes}
 
 -- The root of D at (0, 0) has the shape (4, 3), and that of D with its cut turned has (3, 6) alone listed: no bytes are good lists of both.
 D-shape : ShapeAt 5 6 (ListsOf D) (nodeAt D 2) (corner 0 0) (shape 4 3)
@@ -66,6 +66,11 @@ lists-differ a b f g e =
     let within = z .within in let wide = z .wide in
     let y : Stores 5 (slotsOf D b 2 (corner 0 0)) o = record { wide = z .wide; within = z .within; high = z .high; byte = sym (root-bytes a b e (o .w .0 - 1) (omega arith)) ∙ z .byte } in
     let low = d .high in let high = turned-listed o (record { is = l .shapes o y; alone = λ s x c. l .undominated o s y x c }) in omega arith
+
+-- with need 1 as (4,0,1), module 1 at (2, 0) has the shape (2, 3) no longer: that holds 3 CLBs
+grown-leaf : ShapeAt 5 6 (SuitsOf grown) (nodeAt grown 1) (corner 2 0) (shape 2 3) → ⊥
+unfolding D slotRows changed padded Realizes stands has joined added standing columnOf coversBlock heldBetween holds column count total
+grown-leaf z = let h = z .1 .clbs in omega arith
 
 -- D takes 19 bytes; a cut is not its own other kind
 D-fits : (out : List ℕ) → 19 ≤ length out → length (designBytes D) ≤ length out
@@ -96,6 +101,10 @@ module _ (S : Services) (demand : Demand3 S) (start work : List ℕ) (q : Reply)
 
     pub edit-changes-nothing : r .design ≡ D → ⊥
     edit-changes-nothing e = let (c, a, b) = turning .cut in never-other c (sym a ∙ ap (λ d. tokenAt d 2) (sym e) ∙ b)
+
+    pub edit-turns-into-a-module : tokenAt (r .design) 2 ≡ Cut Horizontal
+    unfolding D slotRows padded
+    edit-turns-into-a-module = let (c, a, b) = turning .cut in let e : Cut Vertical ≡ Cut c = a in let z : Vertical ≡ c = cc in rw (← z) at b
 
     pub edit-moves-a-module : getD (r .design .tokens) 1 0 ≡ 3
     unfolding D slotRows padded
@@ -176,6 +185,18 @@ module _ (S : Services) (demand : Demand3 S) (start work : List ℕ) (q : Reply)
         demand .kept D start D work first .off _ r after x done 0 (corner 0 0) (omega arith) (record { column = omega arith; row = omega arith })
         (rw e absurd-so) j h
 
+    -- the leaf of another module relisted, and the changed one's not; the way up ended below the root (P9)
+    lists-after : GoodLists (r .design) after
+    lists-after = demand .kept D start (r .design) after (edited first x) .good
+
+    pub edit-relists-another-module : r .design ≡ grown → Stores 5 (slotsOf D after 1 (corner 2 0)) (shape 2 3) → ⊥
+    unfolding D slotRows changed
+    edit-relists-another-module e z =
+        grown-leaf ((rw e at lists-after) 1 (corner 2 0) (omega arith) (record { column = omega arith; row = omega arith }) .shapes (shape 2 3) z)
+
+    pub edit-stops-below-the-root : r .design ≡ grown → (j : ℕ) → j < 5 → slotsOf grown after 2 (corner 0 0) j ≡ getD (0 ∷ 0 ∷ 0 ∷ 4 ∷ 3 ∷ []) j 0
+    edit-stops-below-the-root e = grown-root-bytes after (rw e at lists-after)
+
   -- an edit that refuses a design that was saved and read again
   pub edit-refuses-a-saved-design : Demand2 S → (out out' : List ℕ) (w : Written) (r : Handed) → S .write D out w out' → 19 ≤ length out
       → S .read (take (writtenAnswer w .value) out') r → (r' : Handed) (after : List ℕ) → S .edit (r .design) (Turn 2) work r' after
@@ -189,3 +210,10 @@ pub edit-refuses-all-after-plan : (S : Services) → Demand3 S → (start rows w
     → S .plan D start rows p work rows' → (r : Handed) (after : List ℕ) → S .edit D (Turn 2) work r after → (answer (r .reply) .number ≡ 0 → ⊥) → ⊥
 edit-refuses-all-after-plan S demand start rows work rows' p h y r after x f =
     demand .kept D start D work (planned h y) .refused (Turn 2) r after x f .1 names-turned
+
+-- What the demand leaves open the contract settles: over a stranger's stairs too, an edit of module 1 leaves module 0's lists.
+pub edit-relists-a-sibling : (S : Services) → Keeping S → (work after : List ℕ) (r : Handed) → 450 ≤ length work → AllStairs D (slotsOf D work)
+    → S .edit D (Change 1 (need 4 0 1)) work r after → (c : Corner) → CornerOn 5 6 c → (j : ℕ) → j < 5 → slotsOf D after 0 c j ≡ slotsOf D work 0 c j
+unfolding D slotRows changed padded changedNode least stands has joined added standing spans
+edit-relists-a-sibling S keeps work after r h st x c on =
+    keeps .edit D _ work after r x .done D-lawful names-grown h st .1 .off 0 c (omega arith) on absurd-so

@@ -11,6 +11,7 @@ use lib.ListN.{length, getD, take, drop, replicate, List·getD-eq-default}
 use Rattle.rules.specs.declared.Corner.{Corner}
 use Rattle.rules.specs.declared.Shape.{Shape}
 use Rattle.rules.specs.declared.Design.{Design}
+use Rattle.rules.specs.declared.Refusal.the-variants.{Unfinished, NoPlacement}
 use Rattle.rules.specs.declared.Reply.{Reply}
 use Rattle.rules.specs.declared.Reply.the-variants.{Done}
 use Rattle.rules.specs.declared.Handed.{Handed}
@@ -18,6 +19,7 @@ use Rattle.rules.specs.declared.Written.{Written}
 use Rattle.rules.specs.declared.Planned.{Planned}
 use Rattle.rules.specs.Search.{all, count, total, least}
 use Rattle.rules.specs.Chip.{corner, shape, rectangle, column, columnOf, coversBlock, heldBetween, OnChip, holds}
+use Rattle.rules.specs.declared.Planned.the-variants.{Box, Refused}
 use Rattle.rules.specs.Tree.{has, stands, joined, added, standing}
 use Rattle.rules.specs.Placement.{Follows, furthest, box, area, Placement}
 use Rattle.rules.specs.Shape.{ShapeAt, Realizes}
@@ -36,6 +38,7 @@ use Rattle.rules.proofs.Searching.{absurd-so, all-iff, ltb-iff}
 use Rattle.rules.proofs.Fitting.{realizes-fits}
 use Rattle.rules.proofs.Suiting.{design-decides}
 use Rattle.promises.specs.Services.{Services, Keeping}
+use Rattle.rules.specs.Program.{decimal, figures, moduleLine, moduleLines, planText}
 use Rattle.rules.proofs.Listing.{list-unique}
 use Rattle.rules.proofs.Changing.{edit-lawful}
 use Rattle.rules.proofs.Checking.{passes-iff}
@@ -387,3 +390,21 @@ module _ (S : Services) (keeps : Keeping S) (before rows after rows' : List ℕ)
       let (ch, (p, down), all) = D-plan (slotsOf D after) (c .listed h .1) in
       let (a, b) = c .done h (shape 4 3) p ch down in
       (a, b ∙ rw (all p down 0 (omega arith), all p down 1 (omega arith)))
+
+-- The program's text is 01's to the byte: of D's floorplan, of 10, and of a number of five digits.
+pub text-of-D : planText (Box (shape 4 3)) 2 printed
+    ≡ 112 ∷ 108 ∷ 97 ∷ 110 ∷ 32 ∷ 48 ∷ 32 ∷ 52 ∷ 32 ∷ 51 ∷ 10
+    ∷ 48 ∷ 32 ∷ 48 ∷ 32 ∷ 48 ∷ 32 ∷ 50 ∷ 32 ∷ 51 ∷ 10
+    ∷ 49 ∷ 32 ∷ 50 ∷ 32 ∷ 48 ∷ 32 ∷ 50 ∷ 32 ∷ 51 ∷ 10 ∷ []
+unfolding fromRows decimal figures moduleLine moduleLines planText
+text-of-D = refl
+
+pub text-of-10 : (m : ℕ) (rows : List ℕ) → planText (Refused NoPlacement) m rows
+    ≡ 112 ∷ 108 ∷ 97 ∷ 110 ∷ 32 ∷ 49 ∷ 48 ∷ 32 ∷ 48 ∷ 10 ∷ []
+unfolding decimal figures planText
+text-of-10 m rows = refl
+
+pub text-of-five-digits : (m : ℕ) (rows : List ℕ) → planText (Refused (Unfinished 12345)) m rows
+    ≡ 112 ∷ 108 ∷ 97 ∷ 110 ∷ 32 ∷ 49 ∷ 32 ∷ 49 ∷ 50 ∷ 51 ∷ 52 ∷ 53 ∷ 10 ∷ []
+unfolding decimal figures planText
+text-of-five-digits m rows = refl
