@@ -6,7 +6,7 @@ use mathlib.Core.Bool.{So}
 use mathlib.Core.List.{List, [], _∷_, _++_}
 use Prim.Native.Nat.{ℕ, zero, suc, _-_, _≤_, _<_}
 use native.Mathlib.Omega.{arith}
-use lib.ListN.{length, getD, replicate, length-replicate, getD-replicate}
+use lib.ListN.{length, getD, drop, replicate, length-replicate, getD-replicate}
 use Rattle.rules.specs.declared.Corner.{Corner}
 use Rattle.rules.specs.declared.Design.{Design}
 use Rattle.rules.specs.declared.Edit.{Edit}
@@ -38,7 +38,7 @@ use Rattle.rules.proofs.Nodes.{lawful-tree}
 use Rattle.rules.proofs.Descending.{laid-down}
 use Rattle.rules.proofs.Choosing.{chosen-once, chooses-this}
 use Rattle.rules.proofs.Floorplans.{own-stairs, suited-decides}
-use Rattle.promises.specs.Services.{Services}
+use Rattle.promises.specs.Services.{Services, Keeping}
 use Rattle.promises.specs.Demand1
 use Rattle.promises.proofs.Inputs.{D-lawful, D-plan, D-enough, tall, tall-breaks-limits, twice, twice-bad-token, names-turned, names-no-zero-need, starved, half-block, over-the-side, printed, printed-lawful, of-lawful, gets-4, gets-5}
 
@@ -117,7 +117,8 @@ unfolding D slotRows two-pairs slot bestWidth
 two-pairs-chosen = chooses-this 5 (rootSlot D (slotsOf D two-pairs)) (shape 5 6) (omega arith) refl refl
 
 two-pairs-down : (p : Placement) × GoesDown D (slotsOf D two-pairs) (shape 5 6) p
-unfolding D slotRows two-pairs slot padded any all least count total stands has joined added standing columnOf coversBlock heldBetween holds column
+unfolding D slotRows two-pairs slot padded any all least count total stands has joined added standing columnOf
+    coversBlock heldBetween holds column
     isAtMost meets leftIndex rightIndex hasPair goesDown
 two-pairs-down =
     (_, laid-down 5 6 (SuitsOf D) (slotsOf D two-pairs) (isSuited D) (suited-decides D) (root D) (lawful-tree D D-lawful .once) (corner 0 0) (shape 5 6) refl)
@@ -179,11 +180,13 @@ module _ (S : Services) (demand : Demand1.Demand1 S) where
 
   -- D's bytes with one number otherwise: W in two bytes or in three where one would do; 65 columns; a block higher than the chip; 65,536; a
   -- need of nothing; a cut on one thing; the module after the last. They are let through, or refused at the byte at fault or the next number
-  pub reader-takes-two-bytes-for-one : (r : Handed) → S .read (sized (133 ∷ 0 ∷ []) 3) r → answer (r .reply) ≡ plainly 2 1
+  pub reader-takes-two-bytes-for-one : (r : Handed) → S .read (sized (133 ∷ 0 ∷ []) 3) r
+      → answer (r .reply) ≡ plainly 2 1
   unfolding inRange numberAt secondByte thirdByte checkedAt designAt
   reader-takes-two-bytes-for-one r x = read-refused {e = Malformed 1} refl (demand .numbered .read _ r x)
 
-  pub reader-takes-three-bytes-for-two : (r : Handed) → S .read (sized (133 ∷ 128 ∷ 0 ∷ []) 3) r → answer (r .reply) ≡ plainly 2 1
+  pub reader-takes-three-bytes-for-two : (r : Handed) → S .read (sized (133 ∷ 128 ∷ 0 ∷ []) 3) r
+      → answer (r .reply) ≡ plainly 2 1
   unfolding inRange numberAt secondByte thirdByte checkedAt designAt
   reader-takes-three-bytes-for-two r x = read-refused {e = Malformed 1} refl (demand .numbered .read _ r x)
 
@@ -195,7 +198,8 @@ module _ (S : Services) (demand : Demand1.Demand1 S) where
   unfolding inRange numberAt secondByte thirdByte checkedAt designAt
   reader-takes-a-tall-block r x = read-refused {e = BreaksLimits 3} refl (demand .numbered .read _ r x)
 
-  pub reader-takes-65536 : (r : Handed) → S .read (needing (128 ∷ 128 ∷ 4 ∷ []) 3 1) r → answer (r .reply) ≡ plainly 2 10
+  pub reader-takes-65536 : (r : Handed) → S .read (needing (128 ∷ 128 ∷ 4 ∷ []) 3 1) r
+      → answer (r .reply) ≡ plainly 2 10
   unfolding inRange lawfulNeed numberAt secondByte thirdByte checkedAt rowAt needOf designAt
   reader-takes-65536 r x = read-refused {e = Malformed 10} refl (demand .numbered .read _ r x)
 
@@ -203,12 +207,15 @@ module _ (S : Services) (demand : Demand1.Demand1 S) where
   unfolding inRange lawfulNeed numberAt secondByte thirdByte checkedAt rowAt needOf designAt
   reader-takes-a-zero-need r x = read-refused {e = BreaksLimits 13} refl (demand .numbered .read _ r x)
 
-  pub reader-joins-one-thing : (r : Handed) → S .read (bytesEnding (2 ∷ 0 ∷ 3 ∷ [])) r → answer (r .reply) ≡ plainly 5 17
-  unfolding stands has joined added inRange lawfulNeed numberAt secondByte thirdByte checkedAt rowAt needOf tokensAt designAt
+  pub reader-joins-one-thing : (r : Handed) → S .read (bytesEnding (2 ∷ 0 ∷ 3 ∷ [])) r
+      → answer (r .reply) ≡ plainly 5 17
+  unfolding stands has joined added inRange lawfulNeed numberAt secondByte thirdByte checkedAt rowAt needOf tokensAt
+      designAt
   reader-joins-one-thing r x = read-refused {e = BadToken 17} refl (demand .numbered .read _ r x)
 
   pub reader-takes-module-m : (r : Handed) → S .read (bytesEnding (2 ∷ 4 ∷ 0 ∷ [])) r → answer (r .reply) ≡ plainly 5 17
-  unfolding stands has joined added inRange lawfulNeed numberAt secondByte thirdByte checkedAt rowAt needOf tokensAt designAt
+  unfolding stands has joined added inRange lawfulNeed numberAt secondByte thirdByte checkedAt rowAt needOf tokensAt
+      designAt
   reader-takes-module-m r x = read-refused {e = BadToken 17} refl (demand .numbered .read _ r x)
 
   -- a refusal that hands back a chip of some width
@@ -224,20 +231,24 @@ module _ (S : Services) (demand : Demand1.Demand1 S) where
   pub writer-takes-a-module-twice : (before after : List ℕ) (r : Written) → S .write twice before r after → writtenAnswer r ≡ plainly 5 0
   writer-takes-a-module-twice before after r x = gets-5 twice-bad-token (demand .numbered .write twice before after r x)
 
-  pub writer-takes-65-columns : (before after : List ℕ) (r : Written) → S .write wide before r after → writtenAnswer r ≡ plainly 4 0
+  pub writer-takes-65-columns : (before after : List ℕ) (r : Written) → S .write wide before r after
+      → writtenAnswer r ≡ plainly 4 0
   writer-takes-65-columns before after r x = gets-4 wide-breaks-limits (demand .numbered .write wide before after r x)
 
   pub writer-takes-a-zero-need : (before after : List ℕ) (r : Written)
-      → S .write (altered (need 2 1 0 ∷ need 0 0 0 ∷ []) (2 ∷ 3 ∷ 0 ∷ [])) before r after → writtenAnswer r ≡ plainly 4 0
+      → S .write (altered (need 2 1 0 ∷ need 0 0 0 ∷ []) (2 ∷ 3 ∷ 0 ∷ [])) before r after
+      → writtenAnswer r ≡ plainly 4 0
   writer-takes-a-zero-need before after r x = gets-4 idle-breaks-limits (demand .numbered .write _ before after r x)
 
   pub writer-takes-module-m : (before after : List ℕ) (r : Written)
-      → S .write (altered (need 2 1 0 ∷ need 3 0 1 ∷ []) (2 ∷ 4 ∷ 0 ∷ [])) before r after → writtenAnswer r ≡ plainly 5 0
+      → S .write (altered (need 2 1 0 ∷ need 3 0 1 ∷ []) (2 ∷ 4 ∷ 0 ∷ [])) before r after
+      → writtenAnswer r ≡ plainly 5 0
   unfolding altered padded all withinLimits lawfulChip inRange lawfulNeed stands has joined added standing
   writer-takes-module-m before after r x = gets-5 (refl, refl) (demand .numbered .write _ before after r x)
 
   pub writer-joins-one-thing : (before after : List ℕ) (r : Written)
-      → S .write (altered (need 2 1 0 ∷ need 3 0 1 ∷ []) (2 ∷ 0 ∷ 3 ∷ [])) before r after → writtenAnswer r ≡ plainly 5 0
+      → S .write (altered (need 2 1 0 ∷ need 3 0 1 ∷ []) (2 ∷ 0 ∷ 3 ∷ [])) before r after
+      → writtenAnswer r ≡ plainly 5 0
   unfolding altered padded all withinLimits lawfulChip inRange lawfulNeed stands has joined added standing
   writer-joins-one-thing before after r x = gets-5 (refl, refl) (demand .numbered .write _ before after r x)
 
@@ -312,7 +323,8 @@ module _ (S : Services) (demand : Demand1.Demand1 S) where
       f (demand .leaving .plan starved before rows after rows' r x (λ n. absurd (omega arith)) .work-listed e .1)
 
   -- place: a stranger's bytes not tested, or rows written all the same
-  strange-placed : (work rows rows' : List ℕ) (r : Planned) → 450 ≤ length work → 8 ≤ length rows → (AllStairs D (slotsOf D work) → ⊥)
+  strange-placed : (work rows rows' : List ℕ) (r : Planned) → 450 ≤ length work → 8 ≤ length rows
+      → (AllStairs D (slotsOf D work) → ⊥)
       → S .place D work rows r rows' → (plannedAnswer r ≡ plainly 9 0) × (rows' ≡ rows)
   unfolding D slotRows
   strange-placed work rows rows' r l h f x =
@@ -332,24 +344,28 @@ module _ (S : Services) (demand : Demand1.Demand1 S) where
   placer-skips-the-stair-test rows rows' r h = let e = stranger-long in strange-placed stranger rows rows' r (omega arith) h no-stairs
 
   -- one byte, in whatever slot of whatever node: over the rows above it; at a width over the columns; as high as an earlier one
-  module _ (work rows rows' : List ℕ) (r : Planned) (l : 450 ≤ length work) (h : 8 ≤ length rows) (x : S .place D work rows r rows')
+  module _ (work rows rows' : List ℕ) (r : Planned) (l : 450 ≤ length work) (h : 8 ≤ length rows)
+      (x : S .place D work rows r rows')
       (t : ℕ) (c : Corner) (b : t < 3) (on : CornerOn 5 6 c) where
     pub placer-misses-a-height : (j : ℕ) → j < 5 → 6 - c .y .0 < slotsOf D work t c j → plannedAnswer r ≡ plainly 9 0
     unfolding D slotRows
     placer-misses-a-height j k o = strange-placed work rows rows' r l h (λ st. let z = st t c b on .rows j k in omega arith) x .0
 
-    pub placer-misses-a-width : (j : ℕ) → j < 5 → 5 - c .x .0 ≤ j → 0 < slotsOf D work t c j → plannedAnswer r ≡ plainly 9 0
+    pub placer-misses-a-width : (j : ℕ) → j < 5 → 5 - c .x .0 ≤ j → 0 < slotsOf D work t c j
+        → plannedAnswer r ≡ plainly 9 0
     unfolding D slotRows
     placer-misses-a-width j k w o = strange-placed work rows rows' r l h (λ st. let z = st t c b on .columns j k (omega arith) in omega arith) x .0
 
-    pub placer-misses-a-level : (i j : ℕ) → i < j → j < 5 → 0 < slotsOf D work t c i → slotsOf D work t c i ≤ slotsOf D work t c j
+    pub placer-misses-a-level : (i j : ℕ) → i < j → j < 5 → 0 < slotsOf D work t c i
+        → slotsOf D work t c i ≤ slotsOf D work t c j
         → plannedAnswer r ≡ plainly 9 0
     unfolding D slotRows
     placer-misses-a-level i j p k q o =
         strange-placed work rows rows' r l h (λ st. let z = st t c b on .fall i j p k q (omega arith) in omega arith) x .0
 
   -- 10 where the root holds a shape, and going down from it fails
-  pub placer-says-none-when-lost : (work rows rows' : List ℕ) (r : Planned) (j : ℕ) → j < 5 → 0 < slotsOf D work 2 (corner 0 0) j
+  pub placer-says-none-when-lost : (work rows rows' : List ℕ) (r : Planned) (j : ℕ) → j < 5
+      → 0 < slotsOf D work 2 (corner 0 0) j
       → S .place D work rows r rows' → plannedAnswer r .number ≡ 10 → ⊥
   unfolding D slotRows
   placer-says-none-when-lost work rows rows' r j h p x e = go (of-lawful D-lawful (demand .numbered .place D work rows rows' r x)) e
@@ -364,7 +380,8 @@ module _ (S : Services) (demand : Demand1.Demand1 S) where
       go (Demand1.done _ _ _) e = omega arith
 
   -- a placer that takes the last left shape that has a pair, and finds that the right one does not suit
-  pub placer-takes-the-last-pair : (rows rows' : List ℕ) (r : Planned) → S .place D two-pairs rows r rows' → plannedAnswer r .number ≡ 9 → ⊥
+  pub placer-takes-the-last-pair : (rows rows' : List ℕ) (r : Planned) → S .place D two-pairs rows r rows'
+      → plannedAnswer r .number ≡ 9 → ⊥
   unfolding D
   placer-takes-the-last-pair rows rows' r x e = go (of-lawful D-lawful (demand .numbered .place D two-pairs rows rows' r x)) e
     where
@@ -415,20 +432,25 @@ module _ (S : Services) (demand : Demand1.Demand1 S) where
       go (Demand1.done n _ _) = absurd (f n)
 
   module _ (work after : List ℕ) (r : Handed) where
-    pub edit-grants-zero-need : S .edit D (Change 0 (need 0 0 0)) work r after → (answer (r .reply) ≡ plainly 11 0) × (r .design ≡ D) × (after ≡ work)
+    pub edit-grants-zero-need : S .edit D (Change 0 (need 0 0 0)) work r after
+        → (answer (r .reply) ≡ plainly 11 0) × (r .design ≡ D) × (after ≡ work)
     edit-grants-zero-need = unnamed _ names-no-zero-need work after r
 
-    pub edit-turns-a-leaf : S .edit D (Turn 0) work r after → (answer (r .reply) ≡ plainly 11 0) × (r .design ≡ D) × (after ≡ work)
+    pub edit-turns-a-leaf : S .edit D (Turn 0) work r after
+        → (answer (r .reply) ≡ plainly 11 0) × (r .design ≡ D) × (after ≡ work)
     edit-turns-a-leaf = unnamed _ names-no-leaf work after r
 
-    pub edit-turns-past-the-tokens : S .edit D (Turn 3) work r after → (answer (r .reply) ≡ plainly 11 0) × (r .design ≡ D) × (after ≡ work)
+    pub edit-turns-past-the-tokens : S .edit D (Turn 3) work r after
+        → (answer (r .reply) ≡ plainly 11 0) × (r .design ≡ D) × (after ≡ work)
     edit-turns-past-the-tokens = unnamed _ names-none-past work after r
 
-    pub edit-names-module-m : S .edit D (Change 2 (need 1 0 0)) work r after → (answer (r .reply) ≡ plainly 11 0) × (r .design ≡ D) × (after ≡ work)
+    pub edit-names-module-m : S .edit D (Change 2 (need 1 0 0)) work r after
+        → (answer (r .reply) ≡ plainly 11 0) × (r .design ≡ D) × (after ≡ work)
     edit-names-module-m = unnamed _ names-no-module-2 work after r
 
   -- a stranger's bytes not tested, also where only one byte is wrong; too few bytes let through, or called unreliable
-  strange-edited : (work after : List ℕ) (r : Handed) → 450 ≤ length work → (AllStairs D (slotsOf D work) → ⊥) → S .edit D (Turn 2) work r after
+  strange-edited : (work after : List ℕ) (r : Handed) → 450 ≤ length work → (AllStairs D (slotsOf D work) → ⊥)
+      → S .edit D (Turn 2) work r after
       → (answer (r .reply) ≡ plainly 9 0) × (r .design ≡ D) × (after ≡ work)
   unfolding D slotRows
   strange-edited work after r h f x =
@@ -445,13 +467,15 @@ module _ (S : Services) (demand : Demand1.Demand1 S) where
       → (answer (r .reply) ≡ plainly 9 0) × (r .design ≡ D) × (after ≡ stranger)
   edit-skips-the-stair-test after r = let e = stranger-long in strange-edited stranger after r (omega arith) no-stairs
 
-  pub edit-misses-a-height : (work after : List ℕ) (r : Handed) (t : ℕ) (c : Corner) (j : ℕ) → 450 ≤ length work → t < 3 → CornerOn 5 6 c → j < 5
+  pub edit-misses-a-height : (work after : List ℕ) (r : Handed) (t : ℕ) (c : Corner) (j : ℕ) → 450 ≤ length work
+      → t < 3 → CornerOn 5 6 c → j < 5
       → 6 - c .y .0 < slotsOf D work t c j → S .edit D (Turn 2) work r after → answer (r .reply) ≡ plainly 9 0
   unfolding D slotRows
   edit-misses-a-height work after r t c j h b on k o x =
       strange-edited work after r h (λ st. let z = st t c b on .rows j k in omega arith) x .0
 
-  pub edit-takes-few-bytes : (work after : List ℕ) (r : Handed) → length work < 450 → S .edit D (Turn 2) work r after → answer (r .reply) ≡ plainly 8 0
+  pub edit-takes-few-bytes : (work after : List ℕ) (r : Handed) → length work < 450 → S .edit D (Turn 2) work r after
+      → answer (r .reply) ≡ plainly 8 0
   unfolding D slotRows
   edit-takes-few-bytes work after r h x = go (of-lawful D-lawful (demand .numbered .edit D _ work after r x))
     where
@@ -462,7 +486,8 @@ module _ (S : Services) (demand : Demand1.Demand1 S) where
       go (Demand1.done _ l _) = absurd (omega arith)
 
   -- check: a module over the chip's side passed, or another named; a block covered in part counted; too few rows let through
-  pub checker-takes-few-rows : (rows : List ℕ) (r : Reply) → length rows < 8 → S .check D rows r → answer r ≡ plainly 8 0
+  pub checker-takes-few-rows : (rows : List ℕ) (r : Reply) → length rows < 8 → S .check D rows r
+      → answer r ≡ plainly 8 0
   unfolding D slotRows
   checker-takes-few-rows rows r h x = go (of-lawful D-lawful (demand .numbered .check D rows r x))
     where
@@ -544,3 +569,9 @@ module _ (S : Services) (demand : Demand1.Demand1 S) where
       go (Demand1.short-of-need _ _) e = let z = ap (λ b. b .number) e in omega arith
       go (Demand1.cut-not-kept {t = t} _ f) e = let z : t ≡ 0 = ap (λ b. b .value) e in (rw z at f) .fault tt
       go (Demand1.done _ _) e = let z = ap (λ b. b .number) e in omega arith
+
+-- What the demands leave open the contract settles: a byte past the count stays.
+pub writer-writes-past-the-count : (S : Services) → Keeping S → (before after : List ℕ) (r : Written) → 19 ≤ length before
+    → S .write D before r after → after ≡ designBytes D ++ drop 19 before
+writer-writes-past-the-count S keeps before after r h x =
+    rw D-bytes at (keeps .write D before after r x .done D-lawful (rw D-bytes h) .1)

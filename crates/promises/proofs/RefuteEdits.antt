@@ -69,7 +69,8 @@ lists-differ a b f g e =
 
 -- with need 1 as (4,0,1), module 1 at (2, 0) has the shape (2, 3) no longer: that holds 3 CLBs
 grown-leaf : ShapeAt 5 6 (SuitsOf grown) (nodeAt grown 1) (corner 2 0) (shape 2 3) → ⊥
-unfolding D slotRows changed padded Realizes stands has joined added standing columnOf coversBlock heldBetween holds column count total
+unfolding D slotRows changed padded Realizes stands has joined added standing columnOf coversBlock heldBetween holds
+    column count total
 grown-leaf z = let h = z .1 .clbs in omega arith
 
 -- D takes 19 bytes; a cut is not its own other kind
@@ -194,7 +195,8 @@ module _ (S : Services) (demand : Demand3 S) (start work : List ℕ) (q : Reply)
     edit-relists-another-module e z =
         grown-leaf ((rw e at lists-after) 1 (corner 2 0) (omega arith) (record { column = omega arith; row = omega arith }) .shapes (shape 2 3) z)
 
-    pub edit-stops-below-the-root : r .design ≡ grown → (j : ℕ) → j < 5 → slotsOf grown after 2 (corner 0 0) j ≡ getD (0 ∷ 0 ∷ 0 ∷ 4 ∷ 3 ∷ []) j 0
+    pub edit-stops-below-the-root : r .design ≡ grown → (j : ℕ) → j < 5
+        → slotsOf grown after 2 (corner 0 0) j ≡ getD (0 ∷ 0 ∷ 0 ∷ 4 ∷ 3 ∷ []) j 0
     edit-stops-below-the-root e = grown-root-bytes after (rw e at lists-after)
 
   -- an edit that refuses a design that was saved and read again
@@ -212,8 +214,10 @@ edit-refuses-all-after-plan S demand start rows work rows' p h y r after x f =
     demand .kept D start D work (planned h y) .refused (Turn 2) r after x f .1 names-turned
 
 -- What the demand leaves open the contract settles: over a stranger's stairs too, an edit of module 1 leaves module 0's lists.
-pub edit-relists-a-sibling : (S : Services) → Keeping S → (work after : List ℕ) (r : Handed) → 450 ≤ length work → AllStairs D (slotsOf D work)
-    → S .edit D (Change 1 (need 4 0 1)) work r after → (c : Corner) → CornerOn 5 6 c → (j : ℕ) → j < 5 → slotsOf D after 0 c j ≡ slotsOf D work 0 c j
+pub edit-relists-a-sibling : (S : Services) → Keeping S → (work after : List ℕ) (r : Handed) → 450 ≤ length work
+    → AllStairs D (slotsOf D work)
+    → S .edit D (Change 1 (need 4 0 1)) work r after → (c : Corner) → CornerOn 5 6 c → (j : ℕ) → j < 5
+    → slotsOf D after 0 c j ≡ slotsOf D work 0 c j
 unfolding D slotRows changed padded changedNode least stands has joined added standing spans
 edit-relists-a-sibling S keeps work after r h st x c on =
     keeps .edit D _ work after r x .done D-lawful names-grown h st .1 .off 0 c (omega arith) on absurd-so

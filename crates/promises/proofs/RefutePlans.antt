@@ -76,13 +76,15 @@ good-bytes d t c bytes g s = (
   λ u. let (o, z, e) = g .complete s (u .is) in rw (u .alone o (g .shapes o z) e) at z,
 )
 
-D-root-bytes : (work : List ℕ) → GoodLists D work → (j : ℕ) → j < 5 → slotsOf D work 2 (corner 0 0) j ≡ getD (0 ∷ 0 ∷ 0 ∷ 3 ∷ 0 ∷ []) j 0
+D-root-bytes : (work : List ℕ) → GoodLists D work → (j : ℕ) → j < 5
+    → slotsOf D work 2 (corner 0 0) j ≡ getD (0 ∷ 0 ∷ 0 ∷ 3 ∷ 0 ∷ []) j 0
 unfolding D slotRows Says
 D-root-bytes work g =
     list-unique 5 (slotsOf D work 2 (corner 0 0)) (λ j. getD (0 ∷ 0 ∷ 0 ∷ 3 ∷ 0 ∷ []) j 0)
     (good-bytes D 2 (corner 0 0) _ (g 2 (corner 0 0) (omega arith) (record { column = omega arith; row = omega arith }))) (D-slot .1)
 
-pub grown-root-bytes : (work : List ℕ) → GoodLists grown work → (j : ℕ) → j < 5 → slotsOf grown work 2 (corner 0 0) j ≡ getD (0 ∷ 0 ∷ 0 ∷ 4 ∷ 3 ∷ []) j 0
+pub grown-root-bytes : (work : List ℕ) → GoodLists grown work → (j : ℕ) → j < 5
+    → slotsOf grown work 2 (corner 0 0) j ≡ getD (0 ∷ 0 ∷ 0 ∷ 4 ∷ 3 ∷ []) j 0
 unfolding D slotRows changed Says
 grown-root-bytes work g =
     list-unique 5 (slotsOf grown work 2 (corner 0 0)) (λ j. getD (0 ∷ 0 ∷ 0 ∷ 4 ∷ 3 ∷ []) j 0)
@@ -114,16 +116,24 @@ never-dominated work g z =
     let e = leaf-list work g .undominated (shape 3 3) (shape 2 3) z leaf-shape (record { wide = omega arith; high = omega arith }) in
     let q = ap (λ s. s .w .0) e in omega arith
 
--- module 0's leaf at (0, 0) has a shape in its first two columns
-never-lost : (work : List ℕ) → GoodLists D work → leafSlot work 0 ≡ 0 → leafSlot work 1 ≡ 0 → ⊥
+-- where (2, 3) is a shape, one of the first two bytes is not 0: module 0's leaf at (0, 0), and module 1's at (2, 0)
+first-two : (t : ℕ) (c : Corner) (bytes : ℕ → ℕ) → GoodList D t c bytes → ShapeAt 5 6 (SuitsOf D) (nodeAt D t) c (shape 2 3)
+    → bytes 0 ≡ 0 → bytes 1 ≡ 0 → ⊥
 unfolding D slotRows
-never-lost work g a b = let (o, z, d) = leaf-list work g .complete (shape 2 3) leaf-shape in go (o .w .0) (o .h .0) (z .wide) (d .wide) (z .byte) (z .high)
+first-two t c bytes g is a b = let (o, z, d) = g .complete (shape 2 3) is in go (o .w .0) (o .h .0) (z .wide) (d .wide) (z .byte) (z .high)
   where
-    go : (w h : ℕ) → 1 ≤ w → w ≤ 2 → leafSlot work (w - 1) ≡ h → 1 ≤ h → ⊥
+    go : (w h : ℕ) → 1 ≤ w → w ≤ 2 → bytes (w - 1) ≡ h → 1 ≤ h → ⊥
     go zero h p q e k = omega arith
     go (suc zero) h p q e k = omega arith
     go (suc (suc zero)) h p q e k = omega arith
     go (suc (suc (suc n))) h p q e k = omega arith
+
+other-leaf-shape : ShapeAt 5 6 (SuitsOf D) (nodeAt D 1) (corner 2 0) (shape 2 3)
+unfolding D slotRows padded Realizes stands has joined added standing columnOf coversBlock heldBetween holds column count total
+other-leaf-shape = (
+  record { wide = omega arith; high = omega arith; columns = omega arith; rows = omega arith },
+  record { clbs = omega arith; rams = omega arith; multipliers = omega arith },
+)
 
 -- D's bytes, and those of D with 200 CLBs needed in module 0, which has a number of two bytes: they are bytes
 bytes-below : (s : List ℕ) → So (all (length s) (λ i. ltb (getD s i 0) 256)) → AreBytes s
@@ -164,7 +174,8 @@ grown-lawful : LawfulDesign grown
 grown-lawful = edit-lawful D D-lawful _ names-grown
 
 small-lawful : LawfulDesign flat × LawfulDesign cell
-unfolding flat cell slotRows padded all stands has joined added standing valueTest withinLimits lawfulChip inRange lawfulNeed
+unfolding flat cell slotRows padded all stands has joined added standing valueTest withinLimits lawfulChip inRange
+    lawfulNeed
 small-lawful = (refl, refl)
 
 flat-rows : List ℕ
@@ -172,8 +183,8 @@ flat-rows = 0 ∷ 0 ∷ 1 ∷ 1 ∷ 1 ∷ 0 ∷ 1 ∷ 1 ∷ []
 
 passing : (verdict D up-to-the-side ≡ Done) × (verdict grown up-to-the-side ≡ Done) × (verdict flat flat-rows ≡ Done)
     × (verdict cell flat-rows ≡ Done)
-unfolding D flat cell flat-rows changed slotRows padded all least count total stands has joined added standing valueTest withinLimits lawfulChip
-    inRange lawfulNeed columnOf coversBlock heldBetween holds column fromRows isOnChip isAtMost isKept judgedCuts judgedRows verdict
+unfolding D flat cell flat-rows changed slotRows padded all least count total stands has joined added standing valueTest
+    withinLimits lawfulChip inRange lawfulNeed columnOf coversBlock heldBetween holds column fromRows isOnChip isAtMost isKept judgedCuts judgedRows verdict
 passing = (refl, refl, refl, refl)
 
 grown-fits : LawfulPlacement grown (fromRows up-to-the-side)
@@ -203,20 +214,28 @@ module _ (S : Services) (demand : Demand2 S) where
 
     -- module 0's first column not counted; a RAM column counted for a multiplier in module 1
     pub listing-loses-a-column : leafSlot after 0 ≡ 0 → leafSlot after 1 ≡ 0 → ⊥
-    listing-loses-a-column = never-lost after (listed .1)
+    listing-loses-a-column = first-two 0 (corner 0 0) (leafSlot after) (leaf-list after (listed .1)) leaf-shape
+
+    -- the slots of one column together, instead of those of one row: at 160, where (2, 0)'s slot of node 1 starts, (0, 2)'s would, with (3, 4)
+    pub listing-lays-columns-together : getD after 160 0 ≡ 0 → getD after 161 0 ≡ 0 → ⊥
+    unfolding D slotRows slot
+    listing-lays-columns-together =
+        first-two 1 (corner 2 0) (slotsOf D after 1 (corner 2 0))
+        (listed .1 1 (corner 2 0) (omega arith) (record { column = omega arith; row = omega arith })) other-leaf-shape
 
     pub listing-takes-a-ram-for-a-multiplier : Stores 5 (slotsOf D after 1 (corner 0 0)) (shape 2 3) → ⊥
     unfolding D slotRows
     listing-takes-a-ram-for-a-multiplier z =
         no-multiplier (listed .1 1 (corner 0 0) (omega arith) (record { column = omega arith; row = omega arith }) .shapes (shape 2 3) z)
 
-    -- the root listed from the right list at its own corner, or the children exchanged, or a box as high as both shapes together, or not at all
-    -- (P7)
+    -- the root listed from the right list at its own corner, or with its children exchanged, or with boxes as high as both shapes together, or
+    -- with every byte at the slot's start, or not at all (P7)
     pub listing-pairs-wrongly : (j : ℕ) → j < 5 → slotsOf D after 2 (corner 0 0) j ≡ getD (0 ∷ 0 ∷ 0 ∷ 3 ∷ 0 ∷ []) j 0
     listing-pairs-wrongly = D-root-bytes after (listed .1)
 
   -- boxes up to the chip's last column left out (P9)
-  pub listing-loses-the-full-width : (before after : List ℕ) (r : Reply) → S .list grown before r after → 450 ≤ length before
+  pub listing-loses-the-full-width : (before after : List ℕ) (r : Reply) → S .list grown before r after
+      → 450 ≤ length before
       → (j : ℕ) → j < 5 → slotsOf grown after 2 (corner 0 0) j ≡ getD (0 ∷ 0 ∷ 0 ∷ 4 ∷ 3 ∷ []) j 0
   unfolding D slotRows changed
   listing-loses-the-full-width before after r x h = grown-root-bytes after (demand .listed grown before after r x grown-lawful h .1)
@@ -270,18 +289,21 @@ module _ (S : Services) (demand : Demand2 S) where
     planner-starts-both-at-one-corner e = let f = (rw e at (planned .1)) .follow in let c = f .2 0 1 refl refl in omega arith
 
   -- where there is a floorplan, one is found: on a chip of more columns than rows, and in one column
-  found : (d : Design) (before rows after rows' : List ℕ) (r : Planned) → S .plan d before rows r after rows' → Enough d before rows
+  found : (d : Design) (before rows after rows' : List ℕ) (r : Planned) → S .plan d before rows r after rows'
+      → Enough d before rows
       → (q : Placement) → LawfulPlacement d q → (plannedAnswer r .number ≡ 0) × GoodPlan d (plannedAnswer r .box) rows'
   found d before rows after rows' r x h q l = let w = demand .planned d before rows after rows' r x h in w .otherwise (λ e. w .none .0 e q l)
 
-  pub planner-takes-rows-for-columns : (before rows after rows' : List ℕ) (r : Planned) → 12 ≤ length before → 8 ≤ length rows
+  pub planner-takes-rows-for-columns : (before rows after rows' : List ℕ) (r : Planned) → 12 ≤ length before
+      → 8 ≤ length rows
       → S .plan flat before rows r after rows' → plannedAnswer r .number ≡ 0
   unfolding flat slotRows
   planner-takes-rows-for-columns before rows after rows' r h k x =
       found flat before rows after rows' r x (record { lawful = small-lawful .0; bytes = h; places = k })
       (fromRows flat-rows) (passes-iff flat (small-lawful .0) flat-rows .0 (passing .2) .1) .0
 
-  pub planner-refuses-one-column : (before rows after rows' : List ℕ) (r : Planned) → 1 ≤ length before → 4 ≤ length rows
+  pub planner-refuses-one-column : (before rows after rows' : List ℕ) (r : Planned) → 1 ≤ length before
+      → 4 ≤ length rows
       → S .plan cell before rows r after rows' → plannedAnswer r .number ≡ 0
   unfolding cell slotRows
   planner-refuses-one-column before rows after rows' r h k x =
@@ -289,7 +311,8 @@ module _ (S : Services) (demand : Demand2 S) where
       (fromRows flat-rows) (passes-iff cell (small-lawful .1) flat-rows .0 (passing .3) .1) .0
 
   -- of two shapes the larger; the left child's shape for both (P9)
-  module _ (before rows after rows' : List ℕ) (r : Planned) (x : S .plan grown before rows r after rows') (h : 450 ≤ length before) (k : 8 ≤ length rows) where
+  module _ (before rows after rows' : List ℕ) (r : Planned) (x : S .plan grown before rows r after rows')
+      (h : 450 ≤ length before) (k : 8 ≤ length rows) where
     grown-planned : GoodPlan grown (plannedAnswer r .box) rows'
     grown-planned = found grown before rows after rows' r x (edited-enough _ names-grown before rows h k) (fromRows up-to-the-side) grown-fits .1
 
@@ -348,8 +371,10 @@ module _ (S : Services) (demand : Demand2 S) where
       → S .write (r .design) before w after → 20 ≤ length before → (writtenAnswer w ≡ plainly 0 20) × (take 20 after ≡ large-bytes)
   writer-drops-a-group before after r w x e y h = demand .bytes-again large-bytes before after r w (are-bytes .1) x e y h
 
-  pub writer-exchanges-groups : (before after : List ℕ) (r : Handed) (w : Written) → S .read larger-bytes r → answer (r .reply) .number ≡ 0
-      → S .write (r .design) before w after → 21 ≤ length before → (writtenAnswer w ≡ plainly 0 21) × (take 21 after ≡ larger-bytes)
+  pub writer-exchanges-groups : (before after : List ℕ) (r : Handed) (w : Written) → S .read larger-bytes r
+      → answer (r .reply) .number ≡ 0
+      → S .write (r .design) before w after → 21 ≤ length before
+      → (writtenAnswer w ≡ plainly 0 21) × (take 21 after ≡ larger-bytes)
   writer-exchanges-groups before after r w x e y h = demand .bytes-again larger-bytes before after r w (are-bytes .2) x e y h
 
   -- a reader that loses the block height, a RAM, or which module a token names
@@ -376,7 +401,8 @@ module _ (S : Services) (demand : Demand2 S) where
 
 -- What the demands leave open a contract settles: of equal areas the narrower (P11), and D's rows to the byte.
 module _ (S : Services) (keeps : Keeping S) (before rows after rows' : List ℕ) (r : Planned) where
-  pub planner-takes-the-wide-one : S .plan four before rows r after rows' → Enough four before rows → r ≡ Box (shape 3 4)
+  pub planner-takes-the-wide-one : S .plan four before rows r after rows' → Enough four before rows
+      → r ≡ Box (shape 3 4)
   unfolding Says
   planner-takes-the-wide-one x h =
       let c = keeps .plan four before rows after rows' r x in
