@@ -24,7 +24,7 @@ use Rattle.rules.specs.Tree.{stands, has, joined, added, standing}
 use Rattle.rules.specs.Placement.{Placement}
 use Rattle.rules.specs.Slot.{slot, CornerOn}
 use Rattle.rules.specs.Choice.{Chosen}
-use Rattle.rules.specs.Design.{LawfulDesign, LawfulPlacement, SuitsOf, withinLimits, lawfulChip, inRange, lawfulNeed, root, slotsOf, AllStairs, OwnLists, rootSlot, GoesDown, widthOf, slotRows}
+use Rattle.rules.specs.Design.{LawfulDesign, LawfulPlacement, SuitsOf, withinLimits, lawfulChip, inRange, lawfulNeed, nodes, root, slotsOf, AllStairs, OwnLists, rootSlot, GoesDown, widthOf, heightOf, slotRows}
 use Rattle.rules.specs.Edit.{namesPlace}
 use Rattle.rules.specs.Bytes.{took, refuse, padded, numberBytes, needBytes, rowBytes, designBytes, numberAt, secondByte, thirdByte, checkedAt, rowAt, needOf, tokensAt, designAt, chipFrom, designFrom}
 use Rattle.rules.specs.Check.{fromRows, isAtMost, isSuited, FirstOff, FirstShort}
@@ -323,17 +323,16 @@ module _ (S : Services) (demand : Demand1.Demand1 S) where
       f (demand .leaving .plan starved before rows after rows' r x (λ n. absurd (omega arith)) .work-listed e .1)
 
   -- place: a stranger's bytes not tested, or rows written all the same
-  strange-placed : (work rows rows' : List ℕ) (r : Planned) → 450 ≤ length work → 8 ≤ length rows
-      → (AllStairs D (slotsOf D work) → ⊥)
-      → S .place D work rows r rows' → (plannedAnswer r ≡ plainly 9 0) × (rows' ≡ rows)
-  unfolding D slotRows
-  strange-placed work rows rows' r l h f x =
-      let a = go (of-lawful D-lawful (demand .numbered .place D work rows rows' r x)) in
-      (a, demand .leaving .place D work rows rows' r x (λ n. let z = ap (λ b. b .number) a in omega arith))
+  strange-placed : (d : Design) (work rows rows' : List ℕ) (r : Planned) → Enough d work rows
+      → (AllStairs d (slotsOf d work) → ⊥) → S .place d work rows r rows'
+      → (plannedAnswer r ≡ plainly 9 0) × (rows' ≡ rows)
+  strange-placed d work rows rows' r h f x =
+      let a = go (of-lawful (h .lawful) (demand .numbered .place d work rows rows' r x)) in
+      (a, demand .leaving .place d work rows rows' r x (λ n. let z = ap (λ b. b .number) a in omega arith))
     where
-      go : {a : Answer} → Demand1.PlaceNumbered D work rows rows' a → a ≡ plainly 9 0
-      go (Demand1.short (inl k)) = absurd (omega arith)
-      go (Demand1.short (inr k)) = absurd (omega arith)
+      go : {a : Answer} → Demand1.PlaceNumbered d work rows rows' a → a ≡ plainly 9 0
+      go (Demand1.short (inl k)) = let l = h .bytes in absurd (omega arith)
+      go (Demand1.short (inr k)) = let l = h .places in absurd (omega arith)
       go (Demand1.stranger _ _) = refl
       go (Demand1.none _ st _) = absurd (f st)
       go (Demand1.lost _ st _ _) = absurd (f st)
@@ -341,27 +340,26 @@ module _ (S : Services) (demand : Demand1.Demand1 S) where
 
   pub placer-skips-the-stair-test : (rows rows' : List ℕ) (r : Planned) → 8 ≤ length rows → S .place D stranger rows r rows'
       → (plannedAnswer r ≡ plainly 9 0) × (rows' ≡ rows)
-  placer-skips-the-stair-test rows rows' r h = let e = stranger-long in strange-placed stranger rows rows' r (omega arith) h no-stairs
+  placer-skips-the-stair-test rows rows' r h =
+      let e = stranger-long in strange-placed D stranger rows rows' r (D-enough stranger rows (omega arith) h) no-stairs
 
-  -- one byte, in whatever slot of whatever node: over the rows above it; at a width over the columns; as high as an earlier one
-  module _ (work rows rows' : List ℕ) (r : Planned) (l : 450 ≤ length work) (h : 8 ≤ length rows)
-      (x : S .place D work rows r rows')
-      (t : ℕ) (c : Corner) (b : t < 3) (on : CornerOn 5 6 c) where
-    pub placer-misses-a-height : (j : ℕ) → j < 5 → 6 - c .y .0 < slotsOf D work t c j → plannedAnswer r ≡ plainly 9 0
-    unfolding D slotRows
-    placer-misses-a-height j k o = strange-placed work rows rows' r l h (λ st. let z = st t c b on .rows j k in omega arith) x .0
-
-    pub placer-misses-a-width : (j : ℕ) → j < 5 → 5 - c .x .0 ≤ j → 0 < slotsOf D work t c j
+  -- of any design one byte, in whatever slot of whatever node: over the rows above it; at a width over the columns; as high as an earlier one
+  module _ (d : Design) (work rows rows' : List ℕ) (r : Planned) (h : Enough d work rows)
+      (x : S .place d work rows r rows') (t : ℕ) (c : Corner) (b : t < nodes d) (on : CornerOn (widthOf d) (slotRows d) c) where
+    pub placer-misses-a-height : (j : ℕ) → j < widthOf d → heightOf d - c .y .0 < slotsOf d work t c j
         → plannedAnswer r ≡ plainly 9 0
-    unfolding D slotRows
-    placer-misses-a-width j k w o = strange-placed work rows rows' r l h (λ st. let z = st t c b on .columns j k (omega arith) in omega arith) x .0
+    placer-misses-a-height j k o =
+        strange-placed d work rows rows' r h (λ st. let z = st t c b on .rows j k in omega arith) x .0
 
-    pub placer-misses-a-level : (i j : ℕ) → i < j → j < 5 → 0 < slotsOf D work t c i
-        → slotsOf D work t c i ≤ slotsOf D work t c j
+    pub placer-misses-a-width : (j : ℕ) → j < widthOf d → widthOf d - c .x .0 ≤ j → 0 < slotsOf d work t c j
         → plannedAnswer r ≡ plainly 9 0
-    unfolding D slotRows
+    placer-misses-a-width j k w o =
+        strange-placed d work rows rows' r h (λ st. let z = st t c b on .columns j k (omega arith) in omega arith) x .0
+
+    pub placer-misses-a-level : (i j : ℕ) → i < j → j < widthOf d → 0 < slotsOf d work t c i
+        → slotsOf d work t c i ≤ slotsOf d work t c j → plannedAnswer r ≡ plainly 9 0
     placer-misses-a-level i j p k q o =
-        strange-placed work rows rows' r l h (λ st. let z = st t c b on .fall i j p k q (omega arith) in omega arith) x .0
+        strange-placed d work rows rows' r h (λ st. let z = st t c b on .fall i j p k q (omega arith) in omega arith) x .0
 
   -- 10 where the root holds a shape, and going down from it fails
   pub placer-says-none-when-lost : (work rows rows' : List ℕ) (r : Planned) (j : ℕ) → j < 5
@@ -449,30 +447,31 @@ module _ (S : Services) (demand : Demand1.Demand1 S) where
     edit-names-module-m = unnamed _ names-no-module-2 work after r
 
   -- a stranger's bytes not tested, also where only one byte is wrong; too few bytes let through, or called unreliable
-  strange-edited : (work after : List ℕ) (r : Handed) → 450 ≤ length work → (AllStairs D (slotsOf D work) → ⊥)
-      → S .edit D (Turn 2) work r after
-      → (answer (r .reply) ≡ plainly 9 0) × (r .design ≡ D) × (after ≡ work)
-  unfolding D slotRows
-  strange-edited work after r h f x =
-      let a = go (of-lawful D-lawful (demand .numbered .edit D _ work after r x)) in
-      let (b, c) = demand .leaving .edit D _ work after r x (λ n. let z = ap (λ b. b .number) a in omega arith) in (a, b, c)
+  strange-edited : (d : Design) (e : Edit) (work after : List ℕ) (r : Handed) → LawfulDesign d → So (namesPlace d e)
+      → workOf d ≤ length work → (AllStairs d (slotsOf d work) → ⊥) → S .edit d e work r after
+      → (answer (r .reply) ≡ plainly 9 0) × (r .design ≡ d) × (after ≡ work)
+  strange-edited d e work after r l n h f x =
+      let a = go (of-lawful l (demand .numbered .edit d e work after r x)) in
+      let (b, c) = demand .leaving .edit d e work after r x (λ n. let z = ap (λ b. b .number) a in omega arith) in (a, b, c)
     where
-      go : {a : Answer} → Demand1.EditNumbered D (Turn 2) work a → a ≡ plainly 9 0
-      go (Demand1.unnamed g) = absurd (g names-turned)
-      go (Demand1.short _ l) = absurd (omega arith)
+      go : {a : Answer} → Demand1.EditNumbered d e work a → a ≡ plainly 9 0
+      go (Demand1.unnamed g) = absurd (g n)
+      go (Demand1.short _ k) = absurd (omega arith)
       go (Demand1.stranger _ _ _) = refl
       go (Demand1.done _ _ st) = absurd (f st)
 
   pub edit-skips-the-stair-test : (after : List ℕ) (r : Handed) → S .edit D (Turn 2) stranger r after
       → (answer (r .reply) ≡ plainly 9 0) × (r .design ≡ D) × (after ≡ stranger)
-  edit-skips-the-stair-test after r = let e = stranger-long in strange-edited stranger after r (omega arith) no-stairs
-
-  pub edit-misses-a-height : (work after : List ℕ) (r : Handed) (t : ℕ) (c : Corner) (j : ℕ) → 450 ≤ length work
-      → t < 3 → CornerOn 5 6 c → j < 5
-      → 6 - c .y .0 < slotsOf D work t c j → S .edit D (Turn 2) work r after → answer (r .reply) ≡ plainly 9 0
   unfolding D slotRows
-  edit-misses-a-height work after r t c j h b on k o x =
-      strange-edited work after r h (λ st. let z = st t c b on .rows j k in omega arith) x .0
+  edit-skips-the-stair-test after r =
+      let e = stranger-long in strange-edited D (Turn 2) stranger after r D-lawful names-turned (omega arith) no-stairs
+
+  pub edit-misses-a-height : (d : Design) (e : Edit) (work after : List ℕ) (r : Handed) → LawfulDesign d
+      → So (namesPlace d e) → workOf d ≤ length work → (t : ℕ) (c : Corner) → t < nodes d
+      → CornerOn (widthOf d) (slotRows d) c → (j : ℕ) → j < widthOf d
+      → heightOf d - c .y .0 < slotsOf d work t c j → S .edit d e work r after → answer (r .reply) ≡ plainly 9 0
+  edit-misses-a-height d e work after r l n h t c b on j k o x =
+      strange-edited d e work after r l n h (λ st. let z = st t c b on .rows j k in omega arith) x .0
 
   pub edit-takes-few-bytes : (work after : List ℕ) (r : Handed) → length work < 450 → S .edit D (Turn 2) work r after
       → answer (r .reply) ≡ plainly 8 0
@@ -571,7 +570,7 @@ module _ (S : Services) (demand : Demand1.Demand1 S) where
       go (Demand1.done _ _) e = let z = ap (λ b. b .number) e in omega arith
 
 -- What the demands leave open the contract settles: a byte past the count stays.
-pub writer-writes-past-the-count : (S : Services) → Keeping S → (before after : List ℕ) (r : Written) → 19 ≤ length before
-    → S .write D before r after → after ≡ designBytes D ++ drop 19 before
+pub writer-writes-past-the-count : (S : Services) → Keeping S → (before after : List ℕ) (r : Written)
+    → 19 ≤ length before → S .write D before r after → after ≡ designBytes D ++ drop 19 before
 writer-writes-past-the-count S keeps before after r h x =
     rw D-bytes at (keeps .write D before after r x .done D-lawful (rw D-bytes h) .1)

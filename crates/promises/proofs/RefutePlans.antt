@@ -117,8 +117,8 @@ never-dominated work g z =
     let q = ap (λ s. s .w .0) e in omega arith
 
 -- where (2, 3) is a shape, one of the first two bytes is not 0: module 0's leaf at (0, 0), and module 1's at (2, 0)
-first-two : (t : ℕ) (c : Corner) (bytes : ℕ → ℕ) → GoodList D t c bytes → ShapeAt 5 6 (SuitsOf D) (nodeAt D t) c (shape 2 3)
-    → bytes 0 ≡ 0 → bytes 1 ≡ 0 → ⊥
+first-two : (t : ℕ) (c : Corner) (bytes : ℕ → ℕ) → GoodList D t c bytes
+    → ShapeAt 5 6 (SuitsOf D) (nodeAt D t) c (shape 2 3) → bytes 0 ≡ 0 → bytes 1 ≡ 0 → ⊥
 unfolding D slotRows
 first-two t c bytes g is a b = let (o, z, d) = g .complete (shape 2 3) is in go (o .w .0) (o .h .0) (z .wide) (d .wide) (z .byte) (z .high)
   where
