@@ -24,7 +24,7 @@ use Rattle.rules.specs.Tree.{stands, has, joined, added, standing}
 use Rattle.rules.specs.Placement.{Placement}
 use Rattle.rules.specs.Slot.{slot, CornerOn}
 use Rattle.rules.specs.Choice.{Chosen}
-use Rattle.rules.specs.Design.{LawfulDesign, LawfulPlacement, SuitsOf, withinLimits, lawfulChip, inRange, lawfulNeed, nodes, root, slotsOf, AllStairs, OwnLists, rootSlot, GoesDown, widthOf, heightOf, slotRows}
+use Rattle.rules.specs.Design.{LawfulDesign, LawfulPlacement, SuitsOf, withinLimits, lawfulChip, inRange, lawfulNeed, nodes, root, slotsOf, AllStairs, OwnLists, rootSlot, GoesDown, givenFor, widthOf, heightOf, slotRows}
 use Rattle.rules.specs.Edit.{namesPlace}
 use Rattle.rules.specs.Bytes.{took, refuse, padded, numberBytes, needBytes, rowBytes, designBytes, numberAt, secondByte, thirdByte, checkedAt, rowAt, needOf, tokensAt, designAt, chipFrom, designFrom}
 use Rattle.rules.specs.Check.{fromRows, isAtMost, isSuited, FirstOff, FirstShort}
@@ -35,9 +35,8 @@ use Rattle.rules.proofs.Searching.{absurd-so}
 use Rattle.rules.proofs.Test.{isStair, areStairs, bestWidth, meets, leftIndex, rightIndex, hasPair, goesDown}
 use Rattle.rules.proofs.Stairs.{stairs-iff}
 use Rattle.rules.proofs.Nodes.{lawful-tree}
-use Rattle.rules.proofs.Descending.{laid-down}
 use Rattle.rules.proofs.Choosing.{chosen-once, chooses-this}
-use Rattle.rules.proofs.Floorplans.{own-stairs, suited-decides}
+use Rattle.rules.proofs.Floorplans.{own-stairs, laid-goes}
 use Rattle.promises.specs.Services.{Services, Keeping}
 use Rattle.promises.specs.Demand1
 use Rattle.promises.proofs.Inputs.{D-lawful, D-plan, D-enough, tall, tall-breaks-limits, twice, twice-bad-token, names-turned, names-no-zero-need, starved, half-block, over-the-side, printed, printed-lawful, of-lawful, gets-4, gets-5}
@@ -119,9 +118,8 @@ two-pairs-chosen = chooses-this 5 (rootSlot D (slotsOf D two-pairs)) (shape 5 6)
 two-pairs-down : (p : Placement) × GoesDown D (slotsOf D two-pairs) (shape 5 6) p
 unfolding D slotRows two-pairs slot padded any all least count total stands has joined added standing columnOf
     coversBlock heldBetween holds column
-    isAtMost meets leftIndex rightIndex hasPair goesDown
-two-pairs-down =
-    (_, laid-down 5 6 (SuitsOf D) (slotsOf D two-pairs) (isSuited D) (suited-decides D) (root D) (lawful-tree D D-lawful .once) (corner 0 0) (shape 5 6) refl)
+    isAtMost givenFor meets leftIndex rightIndex hasPair goesDown
+two-pairs-down = (_, laid-goes D D-lawful (slotsOf D two-pairs) (shape 5 6) refl)
 
 -- D with 65 columns, with a need of nothing, with a token for module 2 and with a cut on one thing
 unfoldable pub wide : Design

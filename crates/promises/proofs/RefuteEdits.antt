@@ -22,7 +22,7 @@ use Rattle.rules.specs.Chip.{corner, shape, rectangle, column, columnOf, covers
 use Rattle.rules.specs.Tree.{spans, stands, has, joined, added, standing}
 use Rattle.rules.specs.Shape.{ShapeAt, Listed, Realizes}
 use Rattle.rules.specs.Slot.{slot, Stores, CornerOn}
-use Rattle.rules.specs.Design.{needAt, tokenAt, ListsOf, root, nodeAt, slotsOf, LawfulDesign, slotRows, SuitsOf, AllStairs}
+use Rattle.rules.specs.Design.{needAt, tokenAt, ListsOf, root, nodeAt, slotsOf, LawfulDesign, slotRows, AllStairs}
 use Rattle.rules.specs.Edit.{other, changed, changedNode}
 use Rattle.rules.specs.Bytes.{padded, numberBytes, needBytes, rowBytes, designBytes}
 use Rattle.rules.specs.Reply.{answer, writtenAnswer, plannedAnswer}
@@ -68,10 +68,10 @@ lists-differ a b f g e =
     let low = d .high in let high = turned-listed o (record { is = l .shapes o y; alone = λ s x c. l .undominated o s y x c }) in omega arith
 
 -- with need 1 as (4,0,1), module 1 at (2, 0) has the shape (2, 3) no longer: that holds 3 CLBs
-grown-leaf : ShapeAt 5 6 (SuitsOf grown) (nodeAt grown 1) (corner 2 0) (shape 2 3) → ⊥
-unfolding D slotRows changed padded Realizes stands has joined added standing columnOf coversBlock heldBetween holds
-    column count total
-grown-leaf z = let h = z .1 .clbs in omega arith
+grown-leaf : ShapeAt 5 6 (ListsOf grown) (nodeAt grown 1) (corner 2 0) (shape 2 3) → ⊥
+unfolding D changed padded stands has joined added standing columnOf coversBlock heldBetween column count total
+    suitsRoom fits
+grown-leaf z = absurd-so (realizes-fits (design-decides grown) (nodeAt grown 1) (rectangle 2 0 2 3) .0 z)
 
 -- D takes 19 bytes; a cut is not its own other kind
 D-fits : (out : List ℕ) → 19 ≤ length out → length (designBytes D) ≤ length out

@@ -24,7 +24,7 @@ use Rattle.rules.specs.Tree.{has, stands, joined, added, standing}
 use Rattle.rules.specs.Placement.{Follows, furthest, box, area, Placement}
 use Rattle.rules.specs.Shape.{ShapeAt, Realizes}
 use Rattle.rules.specs.Slot.{slot, Stores, CornerOn, IsListOf}
-use Rattle.rules.specs.Design.{needAt, ListsOf, root, nodeAt, slotsOf, OwnLists, slotRows, LawfulDesign, LawfulPlacement, valueTest, withinLimits, lawfulChip, inRange, lawfulNeed, SuitsOf, widthOf, heightOf}
+use Rattle.rules.specs.Design.{needAt, ListsOf, root, nodeAt, slotsOf, OwnLists, slotRows, LawfulDesign, LawfulPlacement, valueTest, withinLimits, lawfulChip, inRange, lawfulNeed, widthOf, heightOf}
 use Rattle.rules.specs.declared.Planned.the-variants.{Box}
 use Rattle.rules.specs.Choice.{rowsOut}
 use Rattle.rules.specs.Edit.{changed}
@@ -64,13 +64,13 @@ unfolding D slotRows
 leaf-list work g = g 0 (corner 0 0) (omega arith) (record { column = omega arith; row = omega arith })
 
 -- module 1 of D at (0, 0): columns 0 and 1 hold no multiplier, so (2, 3) is no shape of it there
-no-multiplier : ShapeAt 5 6 (SuitsOf D) (nodeAt D 1) (corner 0 0) (shape 2 3) → ⊥
-unfolding D slotRows padded Realizes stands has joined added standing columnOf coversBlock heldBetween holds column count total
-no-multiplier z = let h = z .1 .multipliers in omega arith
+no-multiplier : ShapeAt 5 6 (ListsOf D) (nodeAt D 1) (corner 0 0) (shape 2 3) → ⊥
+unfolding D padded stands has joined added standing columnOf coversBlock heldBetween column count total suitsRoom fits
+no-multiplier z = absurd-so (realizes-fits (design-decides D) (nodeAt D 1) (rectangle 0 0 2 3) .0 z)
 
 -- a good list is the list of the node's shapes, so the root's bytes are those of the bench table
 good-bytes : (d : Design) (t : ℕ) (c : Corner) (bytes : ℕ → ℕ) → GoodList d t c bytes
-    → IsListOf (widthOf d) bytes (ShapeAt (widthOf d) (heightOf d) (SuitsOf d) (nodeAt d t) c)
+    → IsListOf (widthOf d) bytes (ShapeAt (widthOf d) (heightOf d) (ListsOf d) (nodeAt d t) c)
 good-bytes d t c bytes g s = (
   λ z. record { is = g .shapes s z; alone = λ o y e. g .undominated s o z y e },
   λ u. let (o, z, e) = g .complete s (u .is) in rw (u .alone o (g .shapes o z) e) at z,
@@ -118,7 +118,7 @@ never-dominated work g z =
 
 -- where (2, 3) is a shape, one of the first two bytes is not 0: module 0's leaf at (0, 0), and module 1's at (2, 0)
 first-two : (t : ℕ) (c : Corner) (bytes : ℕ → ℕ) → GoodList D t c bytes
-    → ShapeAt 5 6 (SuitsOf D) (nodeAt D t) c (shape 2 3) → bytes 0 ≡ 0 → bytes 1 ≡ 0 → ⊥
+    → ShapeAt 5 6 (ListsOf D) (nodeAt D t) c (shape 2 3) → bytes 0 ≡ 0 → bytes 1 ≡ 0 → ⊥
 unfolding D slotRows
 first-two t c bytes g is a b = let (o, z, d) = g .complete (shape 2 3) is in go (o .w .0) (o .h .0) (z .wide) (d .wide) (z .byte) (z .high)
   where
@@ -128,12 +128,9 @@ first-two t c bytes g is a b = let (o, z, d) = g .complete (shape 2 3) is in go 
     go (suc (suc zero)) h p q e k = omega arith
     go (suc (suc (suc n))) h p q e k = omega arith
 
-other-leaf-shape : ShapeAt 5 6 (SuitsOf D) (nodeAt D 1) (corner 2 0) (shape 2 3)
-unfolding D slotRows padded Realizes stands has joined added standing columnOf coversBlock heldBetween holds column count total
-other-leaf-shape = (
-  record { wide = omega arith; high = omega arith; columns = omega arith; rows = omega arith },
-  record { clbs = omega arith; rams = omega arith; multipliers = omega arith },
-)
+other-leaf-shape : ShapeAt 5 6 (ListsOf D) (nodeAt D 1) (corner 2 0) (shape 2 3)
+unfolding D padded stands has joined added standing columnOf coversBlock heldBetween column count total suitsRoom fits
+other-leaf-shape = realizes-fits (design-decides D) (nodeAt D 1) (rectangle 2 0 2 3) .1 refl
 
 -- D's bytes, and those of D with 200 CLBs needed in module 0, which has a number of two bytes: they are bytes
 bytes-below : (s : List ℕ) → So (all (length s) (λ i. ltb (getD s i 0) 256)) → AreBytes s
