@@ -1,5 +1,5 @@
 -- What is read decides which part of a contract speaks: a refused reading is told from one that is done by its reply. Assumes nothing.
-use mathlib.Core.Path.{_≡_, refl, sym, _∙_, ap}
+use mathlib.Core.Path.{_≡_, refl, ap}
 use mathlib.Core.List.{List}
 use Prim.Native.Nat.{ℕ}
 use native.Mathlib.Omega.{arith}
@@ -9,7 +9,7 @@ use Rattle.rules.specs.declared.Refusal.the-variants.{Unfinished, Malformed, Wr
 use Rattle.rules.specs.declared.Reply.the-variants.{Done, Refused}
 use Rattle.rules.specs.declared.Handed.{Handed}
 use Rattle.rules.specs.Design.{LawfulDesign}
-use Rattle.rules.specs.Bytes.{Took, took, refuse, designAt}
+use Rattle.rules.specs.Bytes.{took, refuse}
 use Rattle.rules.specs.Reply.{Answer, plainly, refusal, answer}
 use Rattle.rules.specs.Service.{Reads, handed}
 use Rattle.rules.proofs.Reading.{read-lawful}

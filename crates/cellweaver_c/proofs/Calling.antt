@@ -23,15 +23,15 @@ use Rattle.rules.specs.Service.{Enough, workOf, rowsOf, Lists, Plans, Edits}
 use Rattle.rules.proofs.Searching.{know}
 use Rattle.rules.proofs.Nodes.{never-both}
 use Rattle.rules.proofs.Reading.{read-lawful, cleared, written-read}
+use Rattle.lending.specs.Lent.{lending}
 use Rattle.promises.specs.Services.{contracts}
 use Rattle.promises.specs.Demand3.{RunKept}
 use Rattle.promises.proofs.Copying.{refusal-not-0}
 use Rattle.promises.proofs.Refusals.{OfReading, unfinished, malformed, wrong-form, breaks-limits-at, bad-token-at, extra-bytes, reading-refused}
 use Rattle.promises.proofs.Cases.{Lent, unlawful, short, enough, one-lent, two-lent}
 use Rattle.promises.proofs.Demands.{contracts-keep}
-use Rattle.promises.proofs.Editing.{Granted, Unnamed, one-edit, Throughout, begun, edit-goes-on, saved-goes-on, own-kept}
-use Rattle.lending.specs.Lent.{lending}
-use Rattle.writing.specs.Parts.{designRoom}
+use Rattle.promises.proofs.Editing.{Granted, one-edit, Throughout, begun, edit-goes-on, saved-goes-on, own-kept}
+use Rattle.writing.specs.Parts.{designSize}
 use Rattle.cellweaver_c.specs.Asked.{Asked, Says, AskedList, AskedPlan, AskedEdit, PutsBack, EditsInto}
 
 -- A run of calls over work that was `start`, by the bytes and the work that it leaves. Calls that do not write to the work may come between.
@@ -71,19 +71,19 @@ was-read {bytes} {a} {Standing} {Served} x w = go (designAt bytes) refl
         let r : refusal e .number ≡ a .number = ap (λ b. b .number) (sym (x .unread e q .0)) in
         ⊎-elim (λ z. absurd (refusal-not-0 e (r ∙ z))) (λ z. absurd (not-ten (reading-refused bytes e q) (r ∙ z))) w
 
--- and the room lent was enough
-list-room : (d : Design) (before after : List ℕ) (a : Answer) → LawfulDesign d → Says answer (λ r. Lists d before r after) a → a .number ≡ 0
+-- and the bytes lent were enough
+list-enough : (d : Design) (before after : List ℕ) (a : Answer) → LawfulDesign d → Says answer (λ r. Lists d before r after) a → a .number ≡ 0
     → workOf d ≤ length before
-list-room d before after a l s z = go (one-lent d (workOf d) before)
+list-enough d before after a l s z = go (one-lent d (workOf d) before)
   where
     go : Lent d (length before < workOf d) (workOf d ≤ length before) → workOf d ≤ length before
     go (unlawful e t) = never-both d t l
     go (short _ h) = let k = rw (s .said, s .served .short l h .0) at z in absurd (omega arith)
     go (enough _ h) = h
 
-plan-room : (d : Design) (before after rows rows' : List ℕ) (a : Answer) → LawfulDesign d → Says plannedAnswer (λ r. Plans d before rows r after rows') a
+plan-enough : (d : Design) (before after rows rows' : List ℕ) (a : Answer) → LawfulDesign d → Says plannedAnswer (λ r. Plans d before rows r after rows') a
     → (a .number ≡ 0) ⊎ (a .number ≡ 10) → Enough d before rows
-plan-room d before after rows rows' a l s z = go (two-lent d before rows)
+plan-enough d before after rows rows' a l s z = go (two-lent d before rows)
   where
     go : Lent d ((length before < workOf d) ⊎ (length rows < rowsOf d)) (Enough d before rows) → Enough d before rows
     go (unlawful e t) = never-both d t l
@@ -101,8 +101,8 @@ stands : {start work after : List ℕ} (out' : List ℕ) {a : Answer} (f : Refus
 stands out' f m i j = inr (λ z. let k = ap (λ b. b .number) i in omega arith, j)
 
 module _ {start bytes work after out out' : List ℕ} {e : Edit} {a : Answer} (o : Held start bytes work) where
-  with-room : (h : Handed) → Edits (o .design) e work h after → PutsBack h (lending out out') a → Outcome start work after out' a
-  with-room h y p =
+  with-enough : (h : Handed) → Edits (o .design) e work h after → PutsBack h (lending out out') a → Outcome start work after out' a
+  with-enough h y p =
       ⊎-elim put-back (λ r. stands out' NoSuchEdit (omega arith) (p .refused NoSuchEdit (ap (λ f. f .reply) (r .answer)) .0) (r .bytes))
       (one-edit (o .design) e work after h (o .run .own) y)
     where
@@ -122,26 +122,26 @@ module _ {start bytes work after out out' : List ℕ} {e : Edit} {a : Answer} (o
           )
 
   edit-held : AskedEdit bytes e (lending work after) (lending out out') a → Outcome start work after out' a
-  edit-held x = go (x .read (o .design) (o .end) (o .read)) (decLe designRoom (length out)) (know (namesPlace (o .design) e))
+  edit-held x = go (x .read (o .design) (o .end) (o .read)) (decLe designSize (length out)) (know (namesPlace (o .design) e))
     where
-      go : EditsInto (o .design) e (lending work after) (lending out out') a → Dec (designRoom ≤ length out)
+      go : EditsInto (o .design) e (lending work after) (lending out out') a → Dec (designSize ≤ length out)
           → So (namesPlace (o .design) e) ⊎ (So (namesPlace (o .design) e) → ⊥) → Outcome start work after out' a
-      go s (yes room) _ = let (h, y, p) = s .room room in with-room h y p
-      go s (no room) (inl names) = let (i, j, _) = s .short (omega arith) names in stands out' TooShort (omega arith) i j
-      go s (no room) (inr none) = let (i, j, _) = s .unnamed (omega arith) none in stands out' NoSuchEdit (omega arith) i j
+      go s (yes long) _ = let (h, y, p) = s .enough long in with-enough h y p
+      go s (no long) (inl names) = let (i, j, _) = s .short (omega arith) names in stands out' TooShort (omega arith) i j
+      go s (no long) (inr none) = let (i, j, _) = s .unnamed (omega arith) none in stands out' NoSuchEdit (omega arith) i j
 
 -- each call begins a run or goes on with it
 list-held : (start bytes after : List ℕ) (a : Answer) → AskedList bytes (lending start after) a → a .number ≡ 0 → Held start bytes after
 list-held start bytes after a x z =
-    let (d, n, q, s) = was-read x (inl z) in let l = read-lawful bytes d n q .0 in let room = list-room d start after a l s z in
-    let (_, kept, lists) = s .served .done l room in
-    record { from = d; design = d; end = n; read = q; run = begun d start after l room (kept, lists) }
+    let (d, n, q, s) = was-read x (inl z) in let l = read-lawful bytes d n q .0 in let long = list-enough d start after a l s z in
+    let (_, kept, lists) = s .served .done l long in
+    record { from = d; design = d; end = n; read = q; run = begun d start after l long (kept, lists) }
 
 plan-held : (start bytes after rows rows' : List ℕ) (a : Answer) → AskedPlan bytes (lending start after) (lending rows rows') a
     → (a .number ≡ 0) ⊎ (a .number ≡ 10) → Held start bytes after
 plan-held start bytes after rows rows' a x z =
-    let (d, n, q, s) = was-read x z in let l = read-lawful bytes d n q .0 in let room = plan-room d start after rows rows' a l s z in
-    record { from = d; design = d; end = n; read = q; run = begun d start after l (room .bytes) (s .served .listed room) }
+    let (d, n, q, s) = was-read x z in let l = read-lawful bytes d n q .0 in let long = plan-enough d start after rows rows' a l s z in
+    record { from = d; design = d; end = n; read = q; run = begun d start after l (long .bytes) (s .served .listed long) }
 
 granted-held : {start bytes work after out out' : List ℕ} {e : Edit} {a : Answer} → Held start bytes work
     → AskedEdit bytes e (lending work after) (lending out out') a → a .number ≡ 0 → Held start (take (a .value) out') after

@@ -1,12 +1,11 @@
 -- The outcomes of an edit whose design goes to lent bytes. Over no work at all an edit is refused with 11 or 8, since every design's
--- lists take some bytes; a granted one leaves a lawful design, for which there is room. Assumes nothing.
-use mathlib.Core.Path.{_≡_, refl, sym, _∙_, ap}
-use mathlib.Core.Bool.{So}
-use mathlib.Core.List.{List, _++_}
-use Prim.Native.Nat.{ℕ, _+_, _*_, _≤_, _<_}
+-- lists take some bytes; a granted one leaves a lawful design, for which `out` is long enough. Assumes nothing.
+use mathlib.Core.Path.{_≡_, refl, _∙_, ap}
+use mathlib.Core.List.{List}
+use Prim.Native.Nat.{ℕ, _≤_, _<_}
 use native.Mathlib.Omega.{arith}
 use native.Mathlib.Nat.{mul-pos}
-use lib.ListN.{length, drop}
+use lib.ListN.{length}
 use Rattle.rules.specs.declared.Design.{Design}
 use Rattle.rules.specs.declared.Edit.{Edit}
 use Rattle.rules.specs.declared.Refusal.{Refusal}
@@ -14,17 +13,15 @@ use Rattle.rules.specs.declared.Reply.the-variants.{Done, Refused}
 use Rattle.rules.specs.declared.Handed.{Handed}
 use Rattle.rules.specs.declared.Written.{Written}
 use Rattle.rules.specs.Design.{LawfulDesign, nodes, slotRows}
-use Rattle.rules.specs.Edit.{namesPlace, changed}
-use Rattle.rules.specs.Bytes.{designBytes}
-use Rattle.rules.specs.Reply.{Answer, plainly, refusal, answer, writtenAnswer}
+use Rattle.rules.specs.Reply.{Answer, refusal, answer, writtenAnswer}
 use Rattle.rules.specs.Service.{workOf, Writes, Edits}
 use Rattle.rules.proofs.Limits.{limits, every-row}
 use Rattle.rules.proofs.Changing.{edit-lawful}
-use Rattle.promises.proofs.Answering.{edit-granted}
-use Rattle.cellweaver_c.specs.Asked.{PutsBack, EditsInto}
 use Rattle.lending.specs.Lent.{lending}
-use Rattle.writing.specs.Parts.{designRoom}
+use Rattle.promises.proofs.Answering.{edit-granted}
+use Rattle.writing.specs.Parts.{designSize}
 use Rattle.writing.proofs.Longest.{longest}
+use Rattle.cellweaver_c.specs.Asked.{PutsBack, EditsInto}
 
 some-work : (d : Design) → LawfulDesign d → 0 < workOf d
 some-work d lawful =
@@ -39,20 +36,20 @@ back-lawful d e lawful {work} {after} {h} x r =
 
 module _ (d : Design) (e : Edit) (lawful : LawfulDesign d) {work out : List ℕ} {reply : Answer} {h : Handed} where
   pub short-out : {none after : List ℕ} → length none ≡ 0 → Edits d e none h after → reply ≡ answer (h .reply)
-      → length out < designRoom → EditsInto d e (lending work work) (lending out out) reply
+      → length out < designSize → EditsInto d e (lending work work) (lending out out) reply
   short-out z x q s = record {
     unnamed = λ _ o. (q ∙ ap (λ g. answer (g .reply)) (x .unnamed lawful o .0), refl, refl);
     short = λ _ n. (q ∙ ap (λ g. answer (g .reply)) (x .short lawful n (omega (arith, some-work d lawful)) .0), refl, refl);
-    room = λ r. absurd (omega arith);
+    enough = λ r. absurd (omega arith);
   }
 
-  module _ (room : designRoom ≤ length out) {after : List ℕ} (x : Edits d e work h after) where
-    enough-room : {out' : List ℕ} → PutsBack h (lending out out') reply → EditsInto d e (lending work after) (lending out out') reply
-    enough-room p = record { unnamed = λ s. absurd (omega arith); short = λ s. absurd (omega arith); room = λ _. (h, x, p) }
+  module _ (long : designSize ≤ length out) {after : List ℕ} (x : Edits d e work h after) where
+    enough-put : {out' : List ℕ} → PutsBack h (lending out out') reply → EditsInto d e (lending work after) (lending out out') reply
+    enough-put p = record { unnamed = λ s. absurd (omega arith); short = λ s. absurd (omega arith); enough = λ _. (h, x, p) }
 
     pub edit-refused : {f : Refusal} → h .reply ≡ Refused f → reply ≡ refusal f
         → EditsInto d e (lending work after) (lending out out) reply
-    edit-refused {f} r q = enough-room (record {
+    edit-refused {f} r q = enough-put (record {
       done = λ z. let w : _≡_ {A = ℕ} 0 1 = cc in absurd (omega arith);
       refused = λ g z. let w : f ≡ g = cc in (rw (← w) q, refl);
     })
@@ -60,7 +57,7 @@ module _ (d : Design) (e : Edit) (lawful : LawfulDesign d) {work out : List ℕ}
     pub edit-put : {w : Written} {out' : List ℕ} → h .reply ≡ Done → Writes (h .design) out w out' → reply ≡ writtenAnswer w
         → EditsInto d e (lending work after) (lending out out') reply
     edit-put r y q =
-        let l = back-lawful d e lawful x r in let (a, b) = y .done l (omega (arith, longest (h .design) l)) in enough-room (record {
+        let l = back-lawful d e lawful x r in let (a, b) = y .done l (omega (arith, longest (h .design) l)) in enough-put (record {
           done = λ _. (q ∙ ap writtenAnswer a, b);
           refused = λ g z. let w : _≡_ {A = ℕ} 0 1 = cc in absurd (omega arith);
         })

@@ -18,9 +18,9 @@ use Rattle.rules.specs.Edit.{namesPlace}
 use Rattle.rules.specs.Bytes.{Took, took, refuse, designAt}
 use Rattle.rules.specs.Reply.{Answer, refusal, answer, writtenAnswer, plannedAnswer}
 use Rattle.rules.proofs.Searching.{know}
-use Rattle.promises.proofs.Unique.{reads-once, writes-once, lists-once, plans-once, places-once, edits-once, checks-once}
 use Rattle.lending.specs.Lent.{lending}
-use Rattle.writing.specs.Parts.{designRoom}
+use Rattle.promises.proofs.Unique.{reads-once, writes-once, lists-once, plans-once, places-once, edits-once, checks-once}
+use Rattle.writing.specs.Parts.{designSize}
 use Rattle.cellweaver_c.specs.Asked.{Asked, Sizes, AskedRead, AskedSizes, AskedWrite, AskedList, AskedPlan}
 use Rattle.cellweaver_c.specs.Asked.{AskedPlace, AskedCheck, AskedEdit, PutsBack, EditsInto}
 
@@ -32,7 +32,7 @@ all-three : {A B C : Type 0} {a b c : A} {x y z : B} {u v w : C} → (a ≡ c) �
     → (b ≡ c) × (y ≡ z) × (v ≡ w) → (a ≡ b) × (x ≡ y) × (u ≡ v)
 all-three p q = (p .0 ∙ sym (q .0), p .1 ∙ sym (q .1), p .2 ∙ sym (q .2))
 
--- an edit: the room in `out` is told first
+-- an edit: whether `out` is long enough is told first
 put-once : {h : Handed} {out out' out'' : List ℕ} {a a' : Answer} → PutsBack h (lending out out') a → PutsBack h (lending out out'') a'
     → (a ≡ a') × (out' ≡ out'')
 put-once {h} {out} {out'} {out''} {a} {a'} p q = go (h .reply) refl
@@ -44,15 +44,15 @@ put-once {h} {out} {out'} {out''} {a} {a'} p q = go (h .reply) refl
 edit-once : (d : Design) (e : Edit) (before out : List ℕ) {a a' : Answer} {after after' out' out'' : List ℕ}
     → EditsInto d e (lending before after) (lending out out') a → EditsInto d e (lending before after') (lending out out'') a'
     → (a ≡ a') × (after ≡ after') × (out' ≡ out'')
-edit-once d e before out {a} {a'} {after} {after'} {out'} {out''} x y = go (decLe designRoom (length out)) (know (namesPlace d e))
+edit-once d e before out {a} {a'} {after} {after'} {out'} {out''} x y = go (decLe designSize (length out)) (know (namesPlace d e))
   where
-    go : Dec (designRoom ≤ length out) → So (namesPlace d e) ⊎ (So (namesPlace d e) → ⊥)
+    go : Dec (designSize ≤ length out) → So (namesPlace d e) ⊎ (So (namesPlace d e) → ⊥)
         → (a ≡ a') × (after ≡ after') × (out' ≡ out'')
-    go (yes room) _ =
-        let (h, s, p) = x .room room in let (h', s', p') = y .room room in
+    go (yes long) _ =
+        let (h, s, p) = x .enough long in let (h', s', p') = y .enough long in
         let (i, j) = edits-once d e before after after' h h' s s' in let (k, l) = put-once p (rw (← i) at p') in (k, j, l)
-    go (no room) z =
-        let short : length out < designRoom = omega arith in
+    go (no long) z =
+        let short : length out < designSize = omega arith in
         ⊎-elim (λ n. all-three (x .short short n) (y .short short n)) (λ n. all-three (x .unnamed short n) (y .unnamed short n)) z
 
 module _ (bytes : List ℕ) where

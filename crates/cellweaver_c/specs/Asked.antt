@@ -6,7 +6,6 @@ use mathlib.Core.Bool.{So}
 use mathlib.Core.List.{List, _++_}
 use Prim.Native.Nat.{ℕ, _≤_, _<_}
 use lib.ListN.{length, drop}
-use Rattle.rules.specs.declared.Need.{Need}
 use Rattle.rules.specs.declared.Design.{Design}
 use Rattle.rules.specs.declared.Edit.{Edit}
 use Rattle.rules.specs.declared.Edit.the-variants.{Change}
@@ -19,12 +18,12 @@ use Rattle.rules.specs.declared.Written.{Written}
 use Rattle.rules.specs.declared.Planned.{Planned}
 use Rattle.rules.specs.Chip.{shape}
 use Rattle.rules.specs.Edit.{namesPlace}
-use Rattle.rules.specs.Bytes.{Took, took, refuse, designBytes, designAt}
+use Rattle.rules.specs.Bytes.{took, refuse, designBytes, designAt}
 use Rattle.rules.specs.Reply.{Answer, plainly, refusal, answer, writtenAnswer, plannedAnswer}
 use Rattle.rules.specs.Service.{workOf, rowsOf, Reads, Writes, Lists, Plans, Places, Edits, Checks}
 use Rattle.rules.specs.Design.{widthOf, heightOf}
 use Rattle.lending.specs.Lent.{Lent, Stands, Place, put}
-use Rattle.writing.specs.Parts.{designRoom}
+use Rattle.writing.specs.Parts.{designSize}
 
 -- the number returned, with the value, and with the box
 abbrev pub said : ℕ → Place ℕ → Answer
@@ -95,19 +94,19 @@ AskedPlace bytes work rows reply =
 abbrev pub AskedCheck : List ℕ → List ℕ → Answer → Type 0
 AskedCheck bytes rows reply = Asked bytes reply (Unit {0}) (λ d. Says {R = Reply} answer (Checks d rows) reply)
 
--- edit: the bytes of the design that is handed back go to `out`, and their count is the value. Room for the longest design is asked
--- for where work's room is, after 11.
+-- edit: the bytes of the design that is handed back go to `out`, and their count is the value. That it can hold the longest design is
+-- asked where work's length is, after 11.
 pub record PutsBack (h : Handed) (out : Lent) (reply : Answer) : Type 0 where
   pub done : h .reply ≡ Done → let bytes = designBytes (h .design) in
       (reply ≡ plainly 0 (length bytes)) × (out .left ≡ bytes ++ drop (length bytes) (out .came))
   pub refused : (e : Refusal) → h .reply ≡ Refused e → (reply ≡ refusal e) × Stands out
 
 pub record EditsInto (d : Design) (e : Edit) (work out : Lent) (reply : Answer) : Type 0 where
-  pub unnamed : length (out .came) < designRoom → (So (namesPlace d e) → ⊥)
+  pub unnamed : length (out .came) < designSize → (So (namesPlace d e) → ⊥)
       → (reply ≡ refusal NoSuchEdit) × Stands work × Stands out
-  pub short : length (out .came) < designRoom → So (namesPlace d e)
+  pub short : length (out .came) < designSize → So (namesPlace d e)
       → (reply ≡ refusal TooShort) × Stands work × Stands out
-  pub room : designRoom ≤ length (out .came)
+  pub enough : designSize ≤ length (out .came)
       → (h : Handed) × Edits d e (work .came) h (work .left) × PutsBack h out reply
 
 abbrev pub AskedEdit : List ℕ → Edit → Lent → Lent → Answer → Type 0

@@ -16,7 +16,7 @@ use rules::Planned;
 use rules::Refusal;
 use rules::Reply;
 use rules::Written;
-use writing::design_room;
+use writing::design_size;
 ghost use mathlib.Core.Path.{_≡_};
 ghost use Rattle.rules.specs.declared.Edit.the-variants.{Turn};
 ghost use Rattle.rules.specs.Design.{LawfulDesign};
@@ -90,7 +90,7 @@ fn edit_into(
     requires { ⌜ LawfulDesign design ⌝ }
     ensures { λ r. ⌜ EditsInto design change (lent work) (lent out) (said r value) ⌝ }
 {
-    if out.len() < design_room() {
+    if out.len() < design_size() {
         let mut none = [0u8; 0];
         let handed = edit(design, change, &mut none);
         let reply = handed.reply;

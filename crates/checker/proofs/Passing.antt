@@ -15,15 +15,15 @@ use Rattle.rules.specs.declared.Token.the-variants.{Cut, Module}
 use Rattle.rules.specs.declared.Design.{Design}
 use Rattle.rules.specs.Tree.{Tree, leaf, cut, has, Standing, refused, things, standing, last}
 use Rattle.rules.specs.Placement.{Placement}
-use Rattle.rules.specs.Design.{mostModules, tokenAt, nodes, standingOf, nodeAt, LawfulDesign, mostTokens}
+use Rattle.rules.specs.Design.{tokenAt, nodes, standingOf, nodeAt, LawfulDesign, mostTokens}
 use Rattle.rules.specs.Check.{keptAt}
 use Rattle.rules.proofs.Searching.{or-iff}
 use Rattle.rules.proofs.Standing.{part-has, Reading, module-read, cut-read, earlier, read-stands}
 use Rattle.rules.proofs.Nodes.{lawful-tree, node-part}
+use Rattle.rules.proofs.Limits.{limits}
 use Rattle.checker.specs.declared.Extent.{Extent}
 use Rattle.checker.specs.declared.Pass.{Pass}
 use Rattle.checker.specs.Cuts.{nowhere, atStart, afterToken, Ready}
-use Rattle.rules.proofs.Limits.{limits}
 use Rattle.checker.proofs.Extents.{treeExtent, leaf-extent, cut-extent, kept-by-extents}
 
 -- the things that stand, the last first, and the last of them

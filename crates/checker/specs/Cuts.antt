@@ -10,7 +10,7 @@ use Rattle.rules.specs.declared.Token.{Token}
 use Rattle.rules.specs.declared.Token.the-variants.{Cut, Module, Beyond}
 use Rattle.rules.specs.Chip.{corner, left, right, bottom, top}
 use Rattle.rules.specs.Placement.{Placement}
-use Rattle.rules.specs.Design.{mostModules, mostTokens}
+use Rattle.rules.specs.Design.{mostTokens}
 use Rattle.rules.proofs.Test.{across}
 use Rattle.checker.specs.declared.Extent.{Extent}
 use Rattle.checker.specs.declared.Pass.{Pass}

@@ -1,7 +1,6 @@
 -- The judgement of one module: its rectangle from four bytes, 12 before 13.
 use mathlib.Core.Bool.{Bool, true, false}
-use Prim.Native.Nat.{ℕ, _<_}
-use Rattle.rules.specs.declared.Rectangle.{Rectangle}
+use Prim.Native.Nat.{ℕ}
 use Rattle.rules.specs.declared.Design.{Design}
 use Rattle.rules.specs.declared.Refusal.the-variants.{OffTheChip, ShortOfNeed}
 use Rattle.rules.specs.declared.Reply.{Reply}

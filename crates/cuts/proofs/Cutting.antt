@@ -12,8 +12,8 @@ use Rattle.slots.specs.declared.Board.{Board}
 use Rattle.slots.specs.Written.{Filled}
 use Rattle.slots.specs.Lent.{OnBoard, startOn, Lent, SlotOn}
 use Rattle.slots.proofs.Filling.{same-filled, slot-filled}
-use Rattle.cuts.specs.Cut.{filledSize, lineSize, topsSize, TailsNone, boxTop, leastTop, keptByte, laidSlot, TopsAre}
 use Rattle.slots.proofs.Lending.{last-lent}
+use Rattle.cuts.specs.Cut.{filledSize, lineSize, topsSize, TailsNone, boxTop, leastTop, keptByte, laidSlot, TopsAre}
 use Rattle.cuts.proofs.Least.{least-found}
 use Rattle.cuts.proofs.Tops.{top-out}
 

@@ -15,10 +15,10 @@ use Rattle.rules.specs.Design.{mostColumns, mostRows}
 use Rattle.rules.proofs.Test.{across}
 use Rattle.slots.specs.declared.Board.{Board}
 use Rattle.slots.specs.Written.{Filled}
-use Rattle.slots.specs.Lent.{OnBoard, startOn, slotsOn, bytesFrom, Lent}
+use Rattle.slots.specs.Lent.{OnBoard, startOn, slotsOn, bytesFrom}
 use Rattle.slots.proofs.Filling.{one-filled, then-filled, same-length, filled-at, filled-out}
-use Rattle.cuts.specs.Cut.{mostPlaces, filledSize, chunk, cornerAt, lines, places, lowered, leastOf, slotTop, heldTop, TailsNone, LineFilled, laidTop, Laid}
 use Rattle.slots.proofs.Lending.{slot-bytes}
+use Rattle.cuts.specs.Cut.{mostPlaces, filledSize, chunk, cornerAt, lines, places, lowered, leastOf, slotTop, heldTop, TailsNone, LineFilled, laidTop, Laid}
 use Rattle.cuts.proofs.Least.{least-start}
 
 -- filling: one height more

@@ -16,8 +16,8 @@ use Rattle.rules.specs.declared.Corner.{Corner}
 use Rattle.rules.specs.Slot.{slot}
 use Rattle.rules.proofs.Test.{across, onlyIf}
 use Rattle.slots.specs.declared.Board.{Board}
-use Rattle.cuts.specs.Cut.{mostPlaces, filledSize, topsSize, places, firstRight, lowered, leastOf, heldTop, TailsNone, hasBox, greaterTop, boxTop, leastTop, TopsAre, Pairable, laidTop, Laid}
 use Rattle.slots.specs.Lent.{OnBoard, startOn, slotsOn, Lent}
+use Rattle.cuts.specs.Cut.{mostPlaces, filledSize, topsSize, places, firstRight, lowered, leastOf, heldTop, TailsNone, hasBox, greaterTop, boxTop, leastTop, TopsAre, Pairable, laidTop, Laid}
 use Rattle.cuts.proofs.Least.{lowered-none, lowered-some, least-start}
 use Rattle.cuts.proofs.Tops.{Meets, meets-out, top-in}
 

@@ -14,9 +14,9 @@ use borrow.Author.Tests.{lt-ltb, le-ltb, ltb-true, eq-eqb, ne-eqb}
 use Rattle.rules.specs.declared.Direction.{Direction}
 use Rattle.rules.specs.declared.Token.{Token}
 use Rattle.rules.specs.declared.Token.the-variants.{Cut, Module, Beyond}
-use Rattle.rules.specs.Tree.{Tree, leaf, has, Standing, refused, things, stands, joined, added, after, standing}
 use Rattle.rules.specs.declared.Refusal.the-variants.{BadToken, NotOneThing}
 use Rattle.rules.specs.declared.Reply.the-variants.{Done, Refused}
+use Rattle.rules.specs.Tree.{Tree, leaf, has, Standing, refused, things, stands, joined, added, after, standing}
 use Rattle.rules.specs.Design.{mostModules, treeTest}
 use Rattle.rules.proofs.Standing.{joined-stands}
 use Rattle.lawful.specs.declared.Stack.{Stack}

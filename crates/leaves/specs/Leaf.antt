@@ -3,9 +3,9 @@ use mathlib.Core.Path.{_≡_}
 use mathlib.Core.Bool.{Bool, _&&_, _||_, not, So}
 use mathlib.Core.List.{List}
 use Prim.Native.Nat.{ℕ, suc, _+_, _-_, _*_, _≤_, _<_}
-use mir.Val.{boolByte}
 use lib.Dec.{leb, ltb, eqb}
 use lib.ListN.{length, getD}
+use mir.Val.{boolByte}
 use Rattle.rules.specs.declared.Corner.{Corner}
 use Rattle.rules.specs.declared.Rows.{Rows}
 use Rattle.rules.specs.declared.Need.{Need}

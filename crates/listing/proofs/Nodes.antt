@@ -17,10 +17,10 @@ use Rattle.rules.proofs.Limits.{limits, lawful-chip}
 use Rattle.rules.proofs.Listing.{list-bytes}
 use Rattle.rules.proofs.Pairing.{pairings-bytes}
 use Rattle.rules.proofs.Suiting.{design-decides}
+use Rattle.cuts.specs.Cut.{pairedSlot, Cuttable}
+use Rattle.leaves.specs.Leaf.{leafBytes, NodeListed, LeafReady}
 use Rattle.slots.specs.declared.Board.{Board}
 use Rattle.slots.specs.Size.{boardOf}
-use Rattle.leaves.specs.Leaf.{leafBytes, NodeListed, LeafReady}
-use Rattle.cuts.specs.Cut.{pairedSlot, Cuttable}
 use Rattle.slots.specs.Lent.{Lent, NodeOn}
 use Rattle.slots.proofs.Lending.{lent-of, fewer-lent}
 use Rattle.trees.proofs.Lefts.{left-child}

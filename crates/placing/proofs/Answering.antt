@@ -22,19 +22,19 @@ use Rattle.rules.proofs.Limits.{limits}
 use Rattle.rules.proofs.Choosing.{chosen-once}
 use Rattle.rules.proofs.Floorplans.{laid-goes, goes-laid}
 use Rattle.rules.proofs.RowsOut.{rows-same}
-use Rattle.slots.specs.declared.Board.{Board}
-use Rattle.slots.specs.Size.{boardOf}
-use Rattle.slots.specs.Lent.{slotsOn}
 use Rattle.choosing.specs.declared.Layout.{Layout}
 use Rattle.choosing.specs.Choose.{chosenShape}
 use Rattle.choosing.specs.Descend.{placeOf}
 use Rattle.choosing.proofs.Best.{chosen-none, chosen-this}
+use Rattle.slots.specs.declared.Board.{Board}
+use Rattle.slots.specs.Size.{boardOf}
+use Rattle.slots.specs.Lent.{slotsOn}
 use Rattle.placing.specs.Place.{PlacesOn, WentDown, PlacedFrom}
 
-module _ {d : Design} {work rows : List ℕ} (room : Enough d work rows) where
+module _ {d : Design} {work rows : List ℕ} (enough : Enough d work rows) where
   -- a place on the design's chip is on the largest one
   pub on-largest : {places : List Rectangle} → PlacesOn (widthOf d) (heightOf d) (d .modules) places → PlacesOn mostColumns mostRows (d .modules) places
-  on-largest on = record { on = λ k h. let l = limits d (room .lawful) in let o = on .on k h in omega arith }
+  on-largest on = record { on = λ k h. let l = limits d (enough .lawful) in let o = on .on k h in omega arith }
 
   -- the shape found, on the design's own board
   module _ {s : Shape} {board : Board} (e : board ≡ boardOf d)
@@ -61,7 +61,7 @@ module _ {d : Design} {work rows : List ℕ} (room : Enough d work rows) where
     went : (o : Shape) (p : Placement) → ChosenIn d work o → GoesDown d (slotsOf d work) o p
         → So (r .ok) × ((k : ℕ) → k < d .modules → p k ≡ placeOf (r .places) k)
     went o p x down =
-        let (g, f) = goes-laid d (room .lawful) (slotsOf d work) s p (rw (only o x) at down) in
+        let (g, f) = goes-laid d (enough .lawful) (slotsOf d work) s p (rw (only o x) at down) in
         let ok : So (r .ok) = w .ok ∙ g in (ok, λ k h. f k h ∙ sym (w .places ok k h))
 
     pub answer-lost : r .ok ≡ false → PlacedFrom d work rows (Refused Unreliable) rows
@@ -73,7 +73,7 @@ module _ {d : Design} {work rows : List ℕ} (room : Enough d work rows) where
 
     -- where the layout did, so does one
     laid-went : r .ok ≡ true → GoesDown d (slotsOf d work) s (laidFor d (slotsOf d work) s)
-    laid-went e = laid-goes d (room .lawful) (slotsOf d work) s (sym (w .ok) ∙ e)
+    laid-went e = laid-goes d (enough .lawful) (slotsOf d work) s (sym (w .ok) ∙ e)
 
     pub answer-done : {rows' : List ℕ} → r .ok ≡ true → rows' ≡ rowsOut (d .modules) (placeOf (r .places)) ++ drop (4 * d .modules) rows
         → PlacedFrom d work rows (Box s) rows'

@@ -15,13 +15,13 @@ use Rattle.rules.proofs.Searching.{absurd-so}
 use Rattle.rules.proofs.Below.{all-below}
 use Rattle.rules.proofs.Suiting.{design-leaves}
 use Rattle.rules.proofs.Floorplans.{laid-on-chip}
+use Rattle.choosing.specs.declared.Layout.{Layout}
+use Rattle.choosing.specs.Descend.{placeOf, anySuits, LaidOut, LaysOut}
+use Rattle.choosing.proofs.Suited.{laid-suited}
 use Rattle.slots.specs.declared.Board.{Board}
 use Rattle.slots.specs.Size.{boardOf}
 use Rattle.slots.specs.Lent.{slotsOn}
 use Rattle.trees.specs.Positions.{LeftChildren}
-use Rattle.choosing.specs.declared.Layout.{Layout}
-use Rattle.choosing.specs.Descend.{placeOf, anySuits, LaidOut, LaysOut}
-use Rattle.choosing.proofs.Suited.{laid-suited}
 use Rattle.placing.specs.Place.{PlacesOn, FromStairs, GivenIn, WentDown}
 
 module _ {d : Design} {work : List ℕ} {s : Shape} (from : FromStairs d work s) where

@@ -22,5 +22,5 @@ module _ {p : Placement} {before : List ℕ} where
       → Out (k + 1) p before next
   one-out {k} h o e = record { is = e ∙ rw (o .is, add-one) (row-more k p before h) }
 
-  pub same-room : {k : ℕ} {after : List ℕ} → 4 * k ≤ length before → Out k p before after → length after ≡ length before
-  same-room {k} h o = ap length (o .is) ∙ simp (length-append, length-drop) (omega (arith, length-rows k p))
+  pub same-long : {k : ℕ} {after : List ℕ} → 4 * k ≤ length before → Out k p before after → length after ≡ length before
+  same-long {k} h o = ap length (o .is) ∙ simp (length-append, length-drop) (omega (arith, length-rows k p))

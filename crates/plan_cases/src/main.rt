@@ -1,6 +1,6 @@
 // Runs what the plan program runs on many inputs. A case on standard input is two bytes with its length, the low one
 // first, and then its bytes; the texts of all cases are printed one after the other.
-use printing::TEXT_ROOM;
+use printing::TEXT_SIZE;
 use program::MOST_INPUT;
 use program::WORK;
 use program::plan_bytes;
@@ -8,7 +8,7 @@ use rules::MOST_MODULES;
 ghost use Prim.Native.Nat.{_+_, _*_, _≤_, _<_};
 ghost use lib.ListN.{length};
 ghost use Rattle.rules.specs.Design.{mostModules};
-ghost use Rattle.printing.specs.Text.{textRoom};
+ghost use Rattle.printing.specs.Text.{textSize};
 
 const ALL_CASES: usize = 65536;
 
@@ -26,7 +26,7 @@ fn lesser(a: usize, b: usize) -> usize
 // Runs the case at a place, and gives the place of the next one.
 fn run_case(cases: &[u8], at: usize, work: &mut [u8], rows: &mut [u8], text: &mut [u8]) -> usize
     requires { ⌜ at + 2 ≤ length (now cases) ⌝ }
-    requires { ⌜ (4 * mostModules ≤ length (now rows)) × (textRoom ≤ length (now text)) ⌝ }
+    requires { ⌜ (4 * mostModules ≤ length (now rows)) × (textSize ≤ length (now text)) ⌝ }
     ensures { λ r. ⌜ (at < r) × (r ≤ length (now (cases .entry))) ⌝ }
 {
     let start = at + 2;
@@ -40,7 +40,7 @@ fn run_case(cases: &[u8], at: usize, work: &mut [u8], rows: &mut [u8], text: &mu
 
 // Runs the cases one after the other.
 fn run_cases(cases: &[u8], work: &mut [u8], rows: &mut [u8], text: &mut [u8])
-    requires { ⌜ (4 * mostModules ≤ length (now rows)) × (textRoom ≤ length (now text)) ⌝ }
+    requires { ⌜ (4 * mostModules ≤ length (now rows)) × (textSize ≤ length (now text)) ⌝ }
 {
     let mut at = 0;
     while at + 2 <= cases.len() {
@@ -53,6 +53,6 @@ fn main() {
     let count = io::read_full(IN, &mut input);
     let mut work = [0u8; WORK];
     let mut rows = [0u8; 4 * MOST_MODULES];
-    let mut text = [0u8; TEXT_ROOM];
+    let mut text = [0u8; TEXT_SIZE];
     run_cases(&input[..count], &mut work, &mut rows, &mut text);
 }

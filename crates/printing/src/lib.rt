@@ -7,10 +7,10 @@ ghost use Prim.Native.Nat.{_+_, _*_, _≤_, _<_};
 ghost use lib.ListN.{length};
 ghost use Rattle.rules.specs.Program.{decimal, figures, moduleLine, moduleLines, planLine, planText};
 ghost use Rattle.putting.specs.Put.{Put};
-ghost use Rattle.printing.specs.Text.{Room};
+ghost use Rattle.printing.specs.Text.{TextLent};
 
 // Bytes enough for the text of any answer.
-pub const TEXT_ROOM: usize = 2048;
+pub const TEXT_SIZE: usize = 2048;
 
 // How many digits a number has at most.
 const DIGITS: usize = 5;
@@ -107,7 +107,7 @@ fn put_plan(out: &mut [u8], numbers: &[usize]) -> usize
 
 // Puts the text of an answer, with the rows of its modules, and gives the text's length.
 pub fn plan_text(answer: Planned, modules: usize, rows: &[u8], out: &mut [u8]) -> usize
-    requires { ⌜ Room modules (now rows) (now out) ⌝ }
+    requires { ⌜ TextLent modules (now rows) (now out) ⌝ }
     ensures { λ r. ⌜ Put (now (out .entry)) 0 (planText answer modules (now (rows .entry))) r (now (out .exit)) ⌝ }
 {
     match answer {

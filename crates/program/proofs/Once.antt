@@ -10,8 +10,8 @@ use Rattle.rules.specs.declared.Reply.the-variants.{Done, Refused}
 use Rattle.rules.specs.declared.Handed.{Handed}
 use Rattle.rules.specs.declared.Planned.{Planned}
 use Rattle.rules.specs.Program.{planText}
-use Rattle.promises.proofs.Unique.{reads-once, plans-once}
 use Rattle.lending.specs.Lent.{lending}
+use Rattle.promises.proofs.Unique.{reads-once, plans-once}
 use Rattle.program.specs.Run.{Answers, Runs, PlansInput}
 
 pub answers-once : (h : Handed) (work rows : List ℕ) {r r' : Planned} {work' work'' rows' rows'' : List ℕ}

@@ -1,7 +1,7 @@
 // What the plan program does with its input, on lent bytes: it reads the design, plans it, and puts the text.
 use cellweaver::plan;
 use cellweaver::read;
-use printing::TEXT_ROOM;
+use printing::TEXT_SIZE;
 use printing::plan_text;
 use rules::Handed;
 use rules::MOST_MODULES;
@@ -12,7 +12,7 @@ ghost use lib.ListN.{length};
 ghost use Rattle.rules.specs.Design.{mostModules};
 ghost use Rattle.rules.specs.Program.{programInput};
 ghost use Rattle.lending.specs.Lent.{given, lent};
-ghost use Rattle.printing.specs.Text.{textRoom};
+ghost use Rattle.printing.specs.Text.{textSize};
 ghost use Rattle.program.specs.Run.{Answers, Runs, PlansInput};
 
 // The bytes of input that the program reads at most, as many as decide every reading, and its work.
@@ -34,7 +34,7 @@ fn plan_read(handed: Handed, work: &mut [u8], rows: &mut [u8]) -> Planned
 
 // Plans the design in some bytes, puts the text into `out` and gives its length.
 pub fn plan_bytes(bytes: &[u8], work: &mut [u8], rows: &mut [u8], out: &mut [u8]) -> usize
-    requires { ⌜ (4 * mostModules ≤ length (now rows)) × (textRoom ≤ length (now out)) ⌝ }
+    requires { ⌜ (4 * mostModules ≤ length (now rows)) × (textSize ≤ length (now out)) ⌝ }
     ensures { λ r. ⌜ Runs (given bytes) (lent work) (lent rows) (lent out) r ⌝ }
 {
     let handed = read(bytes);
@@ -44,7 +44,7 @@ pub fn plan_bytes(bytes: &[u8], work: &mut [u8], rows: &mut [u8], out: &mut [u8]
 }
 
 // Plans the design in the first `count` bytes of the input, over zeroed work, puts the text and gives its length.
-pub fn plan_input(input: &[u8; MOST_INPUT], count: usize, out: &mut [u8; TEXT_ROOM]) -> usize
+pub fn plan_input(input: &[u8; MOST_INPUT], count: usize, out: &mut [u8; TEXT_SIZE]) -> usize
     requires { ⌜ count ≤ programInput ⌝ }
     ensures { λ r. ⌜ PlansInput (given input) count (lent out) r ⌝ }
 {

@@ -19,23 +19,23 @@ use Rattle.rules.specs.Slot.{Empty}
 use Rattle.rules.specs.Choice.{Chosen}
 use Rattle.rules.specs.Design.{valueTest, LawfulDesign, nodes, slotRows, slotsOf, AllStairs, rootSlot, GoesDown, widthOf, heightOf}
 use Rattle.rules.specs.Edit.{namesPlace}
-use Rattle.rules.proofs.Test.{goesFor}
 use Rattle.rules.specs.Service.{Enough, workOf, rowsOf}
+use Rattle.rules.proofs.Test.{goesFor}
 use Rattle.rules.proofs.Searching.{know}
 use Rattle.rules.proofs.Choosing.{chooses}
 use Rattle.rules.proofs.Floorplans.{laid-goes, goes-laid}
 use Rattle.rules.proofs.Stairs.{stairs-or-not}
 
 -- write, list, plan, place and check: the design's own tests, then the room lent
-pub data Lent (d : Design) (Short Room : Type 0) : Type 0 where
-  unlawful : (e : Refusal) → valueTest d ≡ Refused e → Lent d Short Room
-  short : LawfulDesign d → Short → Lent d Short Room
-  enough : LawfulDesign d → Room → Lent d Short Room
+pub data Lent (d : Design) (Short Given : Type 0) : Type 0 where
+  unlawful : (e : Refusal) → valueTest d ≡ Refused e → Lent d Short Given
+  short : LawfulDesign d → Short → Lent d Short Given
+  enough : LawfulDesign d → Given → Lent d Short Given
 
-tests-first : (d : Design) {Short Room : Type 0} → (LawfulDesign d → Short ⊎ Room) → Lent d Short Room
-tests-first d {Short} {Room} f = go (valueTest d) refl
+tests-first : (d : Design) {Short Given : Type 0} → (LawfulDesign d → Short ⊎ Given) → Lent d Short Given
+tests-first d {Short} {Given} f = go (valueTest d) refl
   where
-    go : (r : Reply) → valueTest d ≡ r → Lent d Short Room
+    go : (r : Reply) → valueTest d ≡ r → Lent d Short Given
     go Done q = ⊎-elim (short q) (enough q) (f q)
     go (Refused e) q = unlawful e q
 

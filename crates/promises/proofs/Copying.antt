@@ -1,7 +1,7 @@
 -- Demand 2's round trips: accepted bytes, written again, are the same bytes; a lawful design, written and read, is the same design; and the
 -- first bytes that the plan program takes decide a reading. Assumes nothing.
 use mathlib.Core.Path.{_≡_, refl, sym, _∙_, ap}
-use mathlib.Core.List.{List, _++_}
+use mathlib.Core.List.{List}
 use Prim.Native.Nat.{ℕ, _≤_}
 use native.Mathlib.Omega.{arith}
 use lib.ListN.{length, take, drop}

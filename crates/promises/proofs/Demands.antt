@@ -1,6 +1,6 @@
 -- The three demands hold of any services that keep their contracts. Demand 2's parts are put together here; demands 1 and 3 have files of their
 -- own. Assumes nothing.
-use mathlib.Core.Path.{_≡_, refl, sym, _∙_, ap}
+use mathlib.Core.Path.{sym, _∙_, ap}
 use Rattle.rules.specs.Reply.{answer}
 use Rattle.rules.proofs.Checking.{passes-iff}
 use Rattle.promises.specs.Services.{Services, Keeping, contracts}

@@ -21,8 +21,8 @@ use Rattle.rules.specs.Edit.{namesPlace, changed, EditedLists}
 use Rattle.rules.specs.Reply.{answer, plannedAnswer}
 use Rattle.rules.specs.Service.{Edits, workOf}
 use Rattle.rules.proofs.Searching.{know}
-use Rattle.rules.proofs.Changing.{edit-lawful, edit-work, edit-keeps}
-use Rattle.rules.proofs.OneChange.{need-changed, needs-kept, tokens-of-need, cut-turned, needs-of-turn}
+use Rattle.rules.proofs.Changing.{edit-lawful, edit-keeps}
+use Rattle.rules.proofs.OneChange.{need-changed, needs-kept, cut-turned}
 use Rattle.rules.proofs.Limits.{every-row}
 use Rattle.rules.proofs.Agreeing.{on-more-rows}
 use Rattle.rules.proofs.Floorplans.{own-stairs}

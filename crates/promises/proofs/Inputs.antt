@@ -1,27 +1,27 @@
 -- The inputs on which wrong services are refuted: 01's D and its edits, what is right of them, from the bench table or computed, and how a table
 -- of numbered replies is read. Assumes nothing.
-use mathlib.Core.Path.{_≡_, refl, sym, _∙_}
-use mathlib.Core.Bool.{false, So}
+use mathlib.Core.Path.{_≡_, refl}
+use mathlib.Core.Bool.{So}
 use mathlib.Core.List.{List, [], _∷_}
 use Prim.Native.Nat.{ℕ, zero, suc, _≤_}
 use native.Mathlib.Omega.{arith}
-use lib.ListN.{length, replicate}
+use lib.ListN.{length}
 use Rattle.rules.specs.declared.Design.{Design}
 use Rattle.rules.specs.declared.Edit.{Edit}
 use Rattle.rules.specs.declared.Edit.the-variants.{Change, Turn}
-use Rattle.rules.specs.declared.Refusal.the-variants.{OffTheChip, ShortOfNeed, CutNotKept}
+use Rattle.rules.specs.declared.Refusal.the-variants.{OffTheChip, ShortOfNeed}
 use Rattle.rules.specs.declared.Reply.the-variants.{Done, Refused}
 use Rattle.rules.specs.Search.{all, least, count, total}
 use Rattle.rules.specs.Chip.{corner, shape, rectangle, column, columnOf, coversBlock, heldBetween, holds}
 use Rattle.rules.specs.Tree.{refused, has, stands, joined, added, standing}
 use Rattle.rules.specs.Placement.{Placement}
-use Rattle.rules.specs.Design.{Sized, LawfulDesign, LawfulPlacement, nodes, standingOf, valueTest, lawfulChip, withinLimits, inRange, lawfulNeed, slotRows}
+use Rattle.rules.specs.Design.{LawfulDesign, LawfulPlacement, nodes, standingOf, valueTest, lawfulChip, withinLimits, inRange, lawfulNeed, slotRows}
 use Rattle.rules.specs.Edit.{namesPlace, changed}
 use Rattle.rules.specs.Bytes.{padded}
 use Rattle.rules.specs.Check.{fromRows, isOnChip, isAtMost, isKept, judgedCuts, judgedRows, verdict}
 use Rattle.rules.specs.Reply.{Answer, plainly}
 use Rattle.rules.specs.Service.{Enough}
-use Rattle.rules.specs.Bench.{Example, lists, slotIs, plansTo, hasNone, Says, AllSay, table, D, four, need, design}
+use Rattle.rules.specs.Bench.{Example, lists, slotIs, plansTo, Says, AllSay, table, D, four, need, design}
 use Rattle.rules.proofs.Searching.{absurd-so}
 use Rattle.rules.proofs.Nodes.{lawful-iff}
 use Rattle.rules.proofs.Bench.{table-holds}

@@ -4,9 +4,9 @@ use mathlib.Core.Path.{_≡_, refl, sym, _∙_, ap}
 use mathlib.Core.Logic.{_⊎_, inl, inr, ⊎-elim}
 use mathlib.Core.Bool.{So}
 use mathlib.Core.List.{List, [], _∷_, _++_}
-use Prim.Native.Nat.{ℕ, zero, suc, _-_, _≤_, _<_}
+use Prim.Native.Nat.{ℕ, suc, _-_, _≤_, _<_}
 use native.Mathlib.Omega.{arith}
-use lib.ListN.{length, getD, drop, replicate, length-replicate, getD-replicate}
+use lib.ListN.{length, getD, drop, replicate, length-replicate}
 use Rattle.rules.specs.declared.Corner.{Corner}
 use Rattle.rules.specs.declared.Design.{Design}
 use Rattle.rules.specs.declared.Edit.{Edit}
@@ -24,22 +24,21 @@ use Rattle.rules.specs.Tree.{stands, has, joined, added, standing}
 use Rattle.rules.specs.Placement.{Placement}
 use Rattle.rules.specs.Slot.{slot, CornerOn}
 use Rattle.rules.specs.Choice.{Chosen}
-use Rattle.rules.specs.Design.{LawfulDesign, LawfulPlacement, SuitsOf, withinLimits, lawfulChip, inRange, lawfulNeed, nodes, root, slotsOf, AllStairs, OwnLists, rootSlot, GoesDown, givenFor, widthOf, heightOf, slotRows}
+use Rattle.rules.specs.Design.{LawfulDesign, LawfulPlacement, SuitsOf, withinLimits, lawfulChip, inRange, lawfulNeed, nodes, slotsOf, AllStairs, OwnLists, rootSlot, GoesDown, givenFor, widthOf, heightOf, slotRows}
 use Rattle.rules.specs.Edit.{namesPlace}
 use Rattle.rules.specs.Bytes.{took, refuse, padded, numberBytes, needBytes, rowBytes, designBytes, numberAt, secondByte, thirdByte, checkedAt, rowAt, needOf, tokensAt, designAt, chipFrom, designFrom}
-use Rattle.rules.specs.Check.{fromRows, isAtMost, isSuited, FirstOff, FirstShort}
+use Rattle.rules.specs.Check.{fromRows, isAtMost}
 use Rattle.rules.specs.Reply.{Answer, plainly, refusal, answer, writtenAnswer, plannedAnswer}
-use Rattle.rules.specs.Service.{Enough, workOf, rowsOf, zeros}
+use Rattle.rules.specs.Service.{Enough, workOf, zeros}
 use Rattle.rules.specs.Bench.{Says, D, need, design, bytesEnding}
 use Rattle.rules.proofs.Searching.{absurd-so}
 use Rattle.rules.proofs.Test.{isStair, areStairs, bestWidth, meets, leftIndex, rightIndex, hasPair, goesDown}
 use Rattle.rules.proofs.Stairs.{stairs-iff}
-use Rattle.rules.proofs.Nodes.{lawful-tree}
 use Rattle.rules.proofs.Choosing.{chosen-once, chooses-this}
 use Rattle.rules.proofs.Floorplans.{own-stairs, laid-goes}
 use Rattle.promises.specs.Services.{Services, Keeping}
 use Rattle.promises.specs.Demand1
-use Rattle.promises.proofs.Inputs.{D-lawful, D-plan, D-enough, tall, tall-breaks-limits, twice, twice-bad-token, names-turned, names-no-zero-need, starved, half-block, over-the-side, printed, printed-lawful, of-lawful, gets-4, gets-5}
+use Rattle.promises.proofs.Inputs.{D-lawful, D-plan, D-enough, tall, tall-breaks-limits, twice, twice-bad-token, names-turned, names-no-zero-need, starved, half-block, over-the-side, of-lawful, gets-4, gets-5}
 
 -- D's bytes, and D's length in bytes
 D-bytes : length (designBytes D) ≡ 19

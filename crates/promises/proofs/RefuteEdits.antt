@@ -20,9 +20,9 @@ use Rattle.rules.specs.declared.Planned.{Planned}
 use Rattle.rules.specs.Search.{any, least, count, total}
 use Rattle.rules.specs.Chip.{corner, shape, rectangle, column, columnOf, coversBlock, heldBetween}
 use Rattle.rules.specs.Tree.{spans, stands, has, joined, added, standing}
-use Rattle.rules.specs.Shape.{ShapeAt, Listed, Realizes}
+use Rattle.rules.specs.Shape.{ShapeAt, Listed}
 use Rattle.rules.specs.Slot.{slot, Stores, CornerOn}
-use Rattle.rules.specs.Design.{needAt, tokenAt, ListsOf, root, nodeAt, slotsOf, LawfulDesign, slotRows, AllStairs}
+use Rattle.rules.specs.Design.{needAt, tokenAt, ListsOf, nodeAt, slotsOf, slotRows, AllStairs}
 use Rattle.rules.specs.Edit.{other, changed, changedNode}
 use Rattle.rules.specs.Bytes.{padded, numberBytes, needBytes, rowBytes, designBytes}
 use Rattle.rules.specs.Reply.{answer, writtenAnswer, plannedAnswer}
@@ -36,8 +36,8 @@ use Rattle.rules.proofs.Changing.{edit-lawful}
 use Rattle.rules.proofs.Same.{names-same}
 use Rattle.promises.specs.Services.{Services, Keeping}
 use Rattle.promises.specs.Demand2.{GoodLists, Demand2}
-use Rattle.promises.specs.Demand3.{Run, listed, planned, edited, saved, SameSizes, NeedChanged, CutTurned, Demand3}
-use Rattle.promises.proofs.Inputs.{D-lawful, turned, grown, turned-list, names-turned, names-grown, names-no-zero-need}
+use Rattle.promises.specs.Demand3.{Run, listed, planned, edited, saved, NeedChanged, CutTurned, Demand3}
+use Rattle.promises.proofs.Inputs.{D-lawful, turned, grown, turned-list, names-turned, names-grown}
 use Rattle.promises.proofs.RefutePlans.{never-empty, grown-root-bytes}
 
 -- The root of D at (0, 0) has the shape (4, 3), and that of D with its cut turned has (3, 6) alone listed: no bytes are good lists of both.
@@ -82,11 +82,11 @@ never-other : (c : Direction) → Cut c ≡ Cut (other c) → ⊥
 never-other Vertical e = let z : _≡_ {A = ℕ} 0 1 = cc in omega arith
 never-other Horizontal e = let z : _≡_ {A = ℕ} 0 1 = cc in omega arith
 
-module _ (S : Services) (demand : Demand3 S) (start work : List ℕ) (q : Reply) (room : 450 ≤ length start) (begun : S .list D start q work) where
+module _ (S : Services) (demand : Demand3 S) (start work : List ℕ) (q : Reply) (enough : 450 ≤ length start) (begun : S .list D start q work) where
   -- a run begins with D's lists
   first : Run S D start D work
   unfolding D slotRows
-  first = listed D-lawful room begun
+  first = listed D-lawful enough begun
 
   -- "an edit that refuses all"; and one that refuses with another number than 11
   pub edit-refuses-all : (r : Handed) (after : List ℕ) → S .edit D (Turn 2) work r after → (answer (r .reply) .number ≡ 0 → ⊥) → ⊥
@@ -128,7 +128,7 @@ module _ (S : Services) (demand : Demand3 S) (start work : List ℕ) (q : Reply)
     pub edit-keeps-lists : Demand2 S → r .design ≡ turned → after ≡ work → (before fresh : List ℕ) (q' : Reply) → 450 ≤ length before → S .list turned before q' fresh → ⊥
     unfolding D slotRows changed
     edit-keeps-lists two e same before fresh q' h y =
-        let g = two .listed D start work q begun D-lawful room .1 in
+        let g = two .listed D start work q begun D-lawful enough .1 in
         let t = two .listed turned before fresh q' y (edit-lawful D D-lawful (Turn 2) names-turned) h .1 in
         let f = (rw (e, same) at (demand .kept D start (r .design) after next)) .fresh before fresh q' y h in
         lists-differ work fresh g t f
@@ -147,10 +147,10 @@ module _ (S : Services) (demand : Demand3 S) (start work : List ℕ) (q : Reply)
         → (before fresh : List ℕ) (q' : Reply) → 450 ≤ length before → S .list turned before q' fresh → ⊥
     unfolding D slotRows changed
     edit-relists-once two e r' y back before fresh q' h z =
-        let g = two .listed D start work q begun D-lawful room .1 in
+        let g = two .listed D start work q begun D-lawful enough .1 in
         let t = two .listed turned before fresh q' z (edit-lawful D D-lawful (Turn 2) names-turned) h .1 in
         let f = (rw e at (demand .kept D start (r .design) after next)) .fresh before fresh q' z h in
-        let b = (rw back at (demand .kept D start (r' .design) after (edited next y))) .fresh start work q begun room in
+        let b = (rw back at (demand .kept D start (r' .design) after (edited next y))) .fresh start work q begun enough in
         lists-differ work fresh g t (sym b ∙ f)
 
     -- a place that does not give what plan gives

@@ -9,7 +9,6 @@ use native.Mathlib.Decide.{decLt}
 use lib.Dec.{ltb}
 use lib.ListN.{length, getD, take, drop, replicate, List·getD-eq-default}
 use Rattle.rules.specs.declared.Corner.{Corner}
-use Rattle.rules.specs.declared.Shape.{Shape}
 use Rattle.rules.specs.declared.Design.{Design}
 use Rattle.rules.specs.declared.Refusal.the-variants.{Unfinished, NoPlacement}
 use Rattle.rules.specs.declared.Reply.{Reply}
@@ -17,15 +16,15 @@ use Rattle.rules.specs.declared.Reply.the-variants.{Done}
 use Rattle.rules.specs.declared.Handed.{Handed}
 use Rattle.rules.specs.declared.Written.{Written}
 use Rattle.rules.specs.declared.Planned.{Planned}
-use Rattle.rules.specs.Search.{all, count, total, least}
-use Rattle.rules.specs.Chip.{corner, shape, rectangle, column, columnOf, coversBlock, heldBetween, OnChip, holds}
 use Rattle.rules.specs.declared.Planned.the-variants.{Box, Refused}
+use Rattle.rules.specs.declared.Planned.the-variants.{Box}
+use Rattle.rules.specs.Search.{all, count, total, least}
+use Rattle.rules.specs.Chip.{corner, shape, rectangle, column, columnOf, coversBlock, heldBetween, holds}
 use Rattle.rules.specs.Tree.{has, stands, joined, added, standing}
 use Rattle.rules.specs.Placement.{Follows, furthest, box, area, Placement}
-use Rattle.rules.specs.Shape.{ShapeAt, Realizes}
-use Rattle.rules.specs.Slot.{slot, Stores, CornerOn, IsListOf}
-use Rattle.rules.specs.Design.{needAt, ListsOf, root, nodeAt, slotsOf, OwnLists, slotRows, LawfulDesign, LawfulPlacement, valueTest, withinLimits, lawfulChip, inRange, lawfulNeed, widthOf, heightOf}
-use Rattle.rules.specs.declared.Planned.the-variants.{Box}
+use Rattle.rules.specs.Shape.{ShapeAt}
+use Rattle.rules.specs.Slot.{slot, Stores, IsListOf}
+use Rattle.rules.specs.Design.{needAt, ListsOf, nodeAt, slotsOf, OwnLists, slotRows, LawfulDesign, LawfulPlacement, valueTest, withinLimits, lawfulChip, inRange, lawfulNeed, widthOf, heightOf}
 use Rattle.rules.specs.Choice.{rowsOut}
 use Rattle.rules.specs.Edit.{changed}
 use Rattle.rules.specs.Bytes.{AreBytes, padded, numberBytes, needBytes, rowBytes, designBytes}
@@ -33,15 +32,15 @@ use Rattle.rules.specs.Check.{fromRows, isOnChip, isAtMost, isKept, judgedCuts,
 use Rattle.rules.specs.Reply.{plainly, answer, writtenAnswer, plannedAnswer}
 use Rattle.rules.specs.Service.{Enough}
 use Rattle.rules.specs.Bench.{D, need, bytesEnding, Says, four, design}
+use Rattle.rules.specs.Program.{decimal, figures, moduleLine, moduleLines, planText}
 use Rattle.rules.proofs.Test.{suitsRoom, fits}
 use Rattle.rules.proofs.Searching.{absurd-so, all-iff, ltb-iff}
 use Rattle.rules.proofs.Fitting.{realizes-fits}
 use Rattle.rules.proofs.Suiting.{design-decides}
-use Rattle.promises.specs.Services.{Services, Keeping}
-use Rattle.rules.specs.Program.{decimal, figures, moduleLine, moduleLines, planText}
 use Rattle.rules.proofs.Listing.{list-unique}
 use Rattle.rules.proofs.Changing.{edit-lawful}
 use Rattle.rules.proofs.Checking.{passes-iff}
+use Rattle.promises.specs.Services.{Services, Keeping}
 use Rattle.promises.specs.Demand2.{GoodList, GoodLists, GoodPlan, Demand2}
 use Rattle.promises.proofs.Inputs.{D-lawful, D-plan, D-enough, D-slot, grown-slot, four-plan, edited-enough, turned, grown, starved, names-turned, names-grown, names-starved, starved-none, printed, printed-lawful, half-block, over-the-side, exchanged, one-cell-shared}
 use Rattle.promises.proofs.RefuteAnswers.{half-not-suited}

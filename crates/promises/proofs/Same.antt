@@ -174,7 +174,7 @@ module _ {d e : Design} (z : SameDesign d e) where
 -- if it answers alike and leaves the same bytes.
 module _ (d e : Design) (lawful : LawfulDesign d) (lawful' : LawfulDesign e)
     (before after after' : List ℕ) (r r' : Written)
-    (room : length (designBytes d) ≤ length before) (room' : length (designBytes e) ≤ length before)
+    (enough : length (designBytes d) ≤ length before) (enough' : length (designBytes e) ≤ length before)
     (x : Writes d before r after) (y : Writes e before r' after') where
   pub same-iff-written : SameDesign d e ↔ ((r ≡ r') × (after ≡ after'))
   same-iff-written = (λ z. same-written z before after after' r r' x y, apart)
@@ -185,7 +185,7 @@ module _ (d e : Design) (lawful : LawfulDesign d) (lawful' : LawfulDesign e)
 
       apart : (r ≡ r') × (after ≡ after') → SameDesign d e
       apart (q, same) =
-          let (a, b) = x .done lawful room in let (a', b') = y .done lawful' room' in
+          let (a, b) = x .done lawful enough in let (a', b') = y .done lawful' enough' in
           let n : length (designBytes d) ≡ length (designBytes e) = cc in
           same-iff-bytes d e lawful lawful' .1 (sym (put d after b) ∙ rw (n, same) (put e after' b'))
 

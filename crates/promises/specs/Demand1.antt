@@ -19,11 +19,11 @@ use Rattle.rules.specs.declared.Planned.{Planned}
 use Rattle.rules.specs.Tree.{refused}
 use Rattle.rules.specs.Placement.{Placement}
 use Rattle.rules.specs.Slot.{PastKept}
-use Rattle.rules.specs.Design.{withinLimits, standingOf, nodes, LawfulDesign, LawfulPlacement, slotsOf, AllStairs, OwnLists, GoesDown, widthOf, NoShapeIn, ChosenIn}
+use Rattle.rules.specs.Design.{withinLimits, standingOf, nodes, LawfulDesign, LawfulPlacement, slotsOf, AllStairs, OwnLists, GoesDown, NoShapeIn, ChosenIn}
 use Rattle.rules.specs.Edit.{namesPlace}
 use Rattle.rules.specs.Bytes.{took, refuse, designBytes, designAt}
 use Rattle.rules.specs.Check.{fromRows, FirstOff, FirstShort, FirstNotKept}
-use Rattle.rules.specs.Reply.{Answer, plainly, refusal, answer, writtenAnswer, plannedAnswer}
+use Rattle.rules.specs.Reply.{Answer, plainly, answer, writtenAnswer, plannedAnswer}
 use Rattle.rules.specs.Service.{Enough, workOf, rowsOf, zeros}
 use Rattle.promises.specs.Services.{Services}
 

@@ -15,11 +15,11 @@ sets-append (x ∷ a) b l i =
 
 module _ {before after : List ℕ} {at next : ℕ} {bytes : List ℕ} (p : Put before at bytes next after) where
   -- the lent bytes keep their number, and the position after what was put is inside them
-  pub same-room : length after ≡ length before
-  same-room = ap length (p .stand) ∙ length-sets before at bytes
+  pub same-long : length after ≡ length before
+  same-long = ap length (p .stand) ∙ length-sets before at bytes
 
   pub ends-inside : next ≤ length after
-  ends-inside = let e = same-room in let i = p .inside in omega arith
+  ends-inside = let e = same-long in let i = p .inside in omega arith
 
 -- nothing put, some bytes stored, and one part put behind another
 pub none-put : {before : List ℕ} {at : ℕ} → at ≤ length before → Put before at [] at before
@@ -32,7 +32,7 @@ stored bytes h = record { counted = refl; inside = h; stand = refl }
 pub both-put : {u v w : List ℕ} {at n m : ℕ} {a b : List ℕ} → Put u at a n v → Put v n b m w → Put u at (a ++ b) m w
 both-put {u} {v} {w} {at} {n} {m} {a} {b} p q = record {
   counted = let e = p .counted in let f = q .counted in rw length-append (omega arith);
-  inside = let e = same-room p in let f = q .inside in omega arith;
+  inside = let e = same-long p in let f = q .inside in omega arith;
   stand = q .stand ∙ rw (p .stand, p .counted) (sets-append a b u at);
 }
 

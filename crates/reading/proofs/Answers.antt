@@ -15,12 +15,12 @@ use Rattle.rules.specs.declared.Reply.the-variants.{Done, Refused}
 use Rattle.rules.specs.Design.{lastKind, lawfulKind, inRange}
 use Rattle.rules.specs.Bytes.{Took, took, refuse, andThen, judged, numberAt, checkedAt, limitedAt, needOf}
 use Rattle.rules.specs.Service.{zeros}
+use Rattle.rules.proofs.Testing.{range-iff}
 use Rattle.numbers.specs.declared.NumberReply.{NumberReply}
 use Rattle.numbers.specs.declared.NumberReply.the-variants.{Number}
 use Rattle.numbers.specs.declared.NumberReply.the-variants as number
 use Rattle.numbers.specs.Replies.{replyOf}
 use Rattle.numbers.proofs.Answers.{was-taken, was-refused}
-use Rattle.rules.proofs.Testing.{range-iff}
 use Rattle.reading.specs.declared.Stage.{Stage}
 use Rattle.reading.specs.declared.OneNeed.{OneNeed}
 use Rattle.reading.specs.Stages.{stage, oneNeed}

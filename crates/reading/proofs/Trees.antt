@@ -13,10 +13,10 @@ use Rattle.rules.specs.declared.Refusal.the-variants.{BadToken, NotOneThing}
 use Rattle.rules.specs.Tree.{Tree, refused, tokenOf, after}
 use Rattle.rules.specs.Design.{mostModules, mostTokens}
 use Rattle.rules.specs.Bytes.{Took, took, refuse, andThen, numberAt, onlyOne, keptToken, tokensAt, padded}
+use Rattle.rules.proofs.Tokens.{kept-small}
 use Rattle.lawful.specs.declared.Stack.{Stack}
 use Rattle.lawful.specs.declared.Step.{Step}
 use Rattle.lawful.specs.Stack.{emptyStack, afterToken, Mirrors}
-use Rattle.rules.proofs.Tokens.{kept-small}
 use Rattle.lawful.proofs.Mirroring.{empty-mirrors, token-refused, token-passed, one-more, one-thing}
 use Rattle.reading.proofs.Rows.{Reading, begun}
 use Rattle.reading.proofs.Rows as rows

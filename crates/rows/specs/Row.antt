@@ -1,5 +1,5 @@
 -- What a row can hold.
-use Prim.Native.Nat.{ℕ, _<_}
+use Prim.Native.Nat.{_<_}
 use Rattle.rules.specs.declared.Rectangle.{Rectangle}
 
 -- a rectangle from four bytes

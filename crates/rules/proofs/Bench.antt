@@ -18,8 +18,8 @@ use Rattle.rules.specs.Chip.{corner, shape}
 use Rattle.rules.specs.Tree.{Tree, leaf, cut, position}
 use Rattle.rules.specs.Slot.{Stores, ListsAt, CornerOn}
 use Rattle.rules.specs.Design.{nodes, nodeAt, root, rootSlot, SuitsOf, ListsOf, givenFor, OwnLists, widthOf, heightOf}
-use Rattle.rules.proofs.Test.{stored}
 use Rattle.rules.specs.Bench.{Example, lists, contains, slotIs, pairsTo, plansTo, hasNone, reads, OneOf, PairsTo, Says, AllSay, table}
+use Rattle.rules.proofs.Test.{stored}
 use Rattle.rules.proofs.Searching.{test-iffs}
 use Rattle.rules.proofs.Standing.{Part}
 use Rattle.rules.proofs.Nodes.{part-node, last-node}

@@ -8,8 +8,8 @@ use native.Mathlib.Omega.{arith}
 use native.Mathlib.Nat.{le-antisymm, add-mul, sub-zero, le-div-iff-mul-le, div-lt-iff-lt-mul, div-mul-le-self}
 use native.Mathlib.Decide.{decLe, decLt}
 use lib.Dec.{leb, ltb, eqb}
-use Rattle.rules.specs.Search.{count, total}
 use Rattle.rules.specs.declared.Chip.{Chip}
+use Rattle.rules.specs.Search.{count, total}
 use Rattle.rules.specs.Chip.{kindAt, Column, columnOf, column, coversBlock, heldBetween}
 use Rattle.rules.proofs.Test.{blocksBetween, blocksOf}
 use Rattle.rules.proofs.Searching.{know, eqb-iff, test-iffs, count-yes, count-no, count-le, count-most, total-yes, total-no}

@@ -18,9 +18,9 @@ use Rattle.rules.specs.declared.Edit.the-variants.{Change, Turn}
 use Rattle.rules.specs.Tree.{tokenOf, numberOf, isCut, isModule}
 use Rattle.rules.specs.Design.{mostModules, noNeed, needAt, tokenAt, nodes, lawfulNeed, withinLimits, nodeAt, root, LawfulDesign, slotRows, widthOf}
 use Rattle.rules.specs.Edit.{namesPlace, changed, changedNode, other, turned, modulePosition}
+use Rattle.rules.specs.Service.{workOf}
 use Rattle.rules.proofs.Searching.{and-iff, any-iff, all-iff, least-found, test-iffs}
 use Rattle.rules.proofs.Tokens.{cut-undone, cut-iff, module-iff}
-use Rattle.rules.specs.Service.{workOf}
 use Rattle.rules.proofs.Nodes.{lawful-iff, lawful-tree, module-token, module-only}
 use Rattle.rules.proofs.Alike.{Alike, AlikeDesigns, nodes-alike, roots-alike}
 

@@ -18,8 +18,8 @@ use Rattle.rules.specs.Slot.{slotStart}
 use Rattle.rules.specs.Design.{givenFor, nodes, nodeAt, root, valueTest, withinLimits, lawfulChip, inRange, lawfulNeed, rootSlot, widthOf, heightOf, slotRows}
 use Rattle.rules.specs.Edit.{changed}
 use Rattle.rules.specs.Bytes.{designAt, checkedAt, numberAt, secondByte, thirdByte, rowAt, needOf, tokensAt, padded}
-use Rattle.rules.proofs.Test.{grid, suitsRoom, parted, fits, lowest, listByte, stored, sideBySide, pairTest, bestWidth, meets, leftIndex, rightIndex, laidFor, laid, merge, leafTest}
 use Rattle.rules.specs.Bench.{Example, lists, contains, slotIs, pairsTo, plansTo, hasNone, reads, E, D, four, table}
+use Rattle.rules.proofs.Test.{grid, suitsRoom, parted, fits, lowest, listByte, stored, sideBySide, pairTest, bestWidth, meets, leftIndex, rightIndex, laidFor, laid, merge, leafTest}
 
 -- the first n values of a function, as a list
 unfoldable pub tab : {A : Type 0} → ℕ → (ℕ → A) → List A

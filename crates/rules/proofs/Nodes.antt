@@ -14,7 +14,7 @@ use Rattle.rules.specs.declared.Refusal.the-variants.{BreaksLimits, NotO
 use Rattle.rules.specs.declared.Reply.{Reply}
 use Rattle.rules.specs.declared.Reply.the-variants.{Done, Refused}
 use Rattle.rules.specs.Tree.{Tree, leaf, cut, position, has, Standing, refused, things, last}
-use Rattle.rules.specs.Placement.{Placement, Kept, Follows, KeptAt}
+use Rattle.rules.specs.Placement.{Placement, Follows, KeptAt}
 use Rattle.rules.specs.Design.{mostModules, tokenAt, nodes, inRange, withinLimits, standingOf, nodeAt, root, treeTest, valueTest, LawfulDesign}
 use Rattle.rules.proofs.Standing.{Once, Part, whole, in-left, in-right, Among, here, Reading, Node, is-leaf, is-cut, was-read, node-among, among-node, last-position, node-is, leaf-of, module-once, one-stands}
 use Rattle.rules.proofs.Searching.{test-iffs}

@@ -1,15 +1,13 @@
 -- The stair test says what 01 says of a stair: each part of it is a bounded search. Assumes nothing.
-use mathlib.Core.Path.{_≡_}
 use mathlib.Core.Logic.{_⊎_, inl, inr, ⊎-elim, _↔_}
-use mathlib.Core.Bool.{So, _&&_, _||_}
+use mathlib.Core.Bool.{So, _||_}
 use Prim.Native.Nat.{ℕ, suc, _-_, _≤_, _<_}
 use native.Mathlib.Omega.{arith}
 use native.Mathlib.Decide.{decLe, decLt}
 use lib.Dec.{leb, ltb, eqb}
 use Rattle.rules.specs.declared.Corner.{Corner}
-use Rattle.rules.specs.Search.{all}
 use Rattle.rules.specs.Chip.{corner}
-use Rattle.rules.specs.Slot.{CornerOn, Stair, Stairs}
+use Rattle.rules.specs.Slot.{Stair, Stairs}
 use Rattle.rules.proofs.Test.{isStair, areStairs}
 use Rattle.rules.proofs.Searching.{and-iff, or-iff, all-iff, leb-iff, ltb-iff, eqb-iff, know}
 

@@ -4,12 +4,12 @@ use mathlib.Core.Bool.{Bool, _&&_}
 use Prim.Native.Nat.{ℕ, zero, suc, _+_, _*_, _/_, _≤_, _<_}
 use lib.Dec.{leb, ltb, eqb}
 use lib.ListN.{getD}
-use Rattle.rules.specs.Search.{count, total}
 use Rattle.rules.specs.declared.Chip.{Chip}
 use Rattle.rules.specs.declared.Corner.{Corner}
 use Rattle.rules.specs.declared.Shape.{Shape}
 use Rattle.rules.specs.declared.Rectangle.{Rectangle}
 use Rattle.rules.specs.declared.Need.{Need}
+use Rattle.rules.specs.Search.{count, total}
 
 -- "Columns are counted 0 to W-1 from the left, rows 0 to H-1 from below." "Each column has a kind: 0 CLB, 1 RAM, 2 multiplier."
 abbrev pub kindAt : Chip → ℕ → ℕ

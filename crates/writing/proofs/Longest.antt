@@ -1,19 +1,18 @@
 -- How many bytes the longest lawful design takes: each number is within its limit, and a lesser number takes no more bytes. No limit
 -- is named. Assumes nothing.
-use mathlib.Core.Path.{_≡_}
-use Prim.Native.Nat.{ℕ, zero, suc, _+_, _*_, _-_, _≤_, _<_}
+use Prim.Native.Nat.{ℕ, _+_, _*_, _-_, _≤_, _<_}
 use native.Mathlib.Omega.{arith}
 use native.Mathlib.Nat.{le-trans, mul-le-mul-left}
 use lib.ListN.{length, getD}
 use Rattle.rules.specs.declared.Design.{Design}
 use Rattle.rules.specs.Chip.{kindAt}
 use Rattle.rules.specs.Design.{mostTokens, mostColumns, mostRows, lastKind, mostModules, mostNumber}
-use Rattle.rules.specs.Design.{needAt, tokenAt, nodes, LawfulDesign, widthOf, heightOf}
-use Rattle.rules.specs.Bytes.{numberBytes, needBytes, rowBytes, designBytes}
+use Rattle.rules.specs.Design.{needAt, nodes, LawfulDesign, widthOf, heightOf}
+use Rattle.rules.specs.Bytes.{numberBytes, needBytes, designBytes}
 use Rattle.rules.proofs.Tokens.{small-number}
 use Rattle.rules.proofs.Nodes.{never-beyond}
 use Rattle.rules.proofs.Limits.{limits, need-limits}
-use Rattle.writing.specs.Parts.{widest, designRoom}
+use Rattle.writing.specs.Parts.{widest, designSize}
 use Rattle.writing.proofs.Lengths.{lesser-shorter, length-need, row-short, length-head, length-modules, length-design}
 
 module _ (d : Design) (lawful : LawfulDesign d) where
@@ -28,8 +27,8 @@ module _ (d : Design) (lawful : LawfulDesign d) where
       let c = lesser-shorter (n .multipliers) mostNumber (l .multipliers) in omega (arith, length-need n)
 
   -- what is put together: the form number, W, H, B, the kinds, m, the needs, the tokens
-  pub longest : length (designBytes d) ≤ designRoom
-  unfolding designRoom
+  pub longest : length (designBytes d) ≤ designSize
+  unfolding designSize
   longest =
       let l = limits d lawful in let w = lesser-shorter (widthOf d) mostColumns (l .chip .width) in
       let h = lesser-shorter (heightOf d) mostRows (l .chip .height) in

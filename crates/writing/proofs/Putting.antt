@@ -1,13 +1,12 @@
 -- A row is put element by element. Assumes nothing.
-use mathlib.Core.Path.{_≡_}
-use mathlib.Core.List.{List, _++_}
+use mathlib.Core.List.{List}
 use Prim.Native.Nat.{ℕ, _+_, _≤_, _<_}
 use native.Mathlib.Omega.{arith}
 use native.Mathlib.Numerals.{add-one}
 use lib.ListN.{length}
 use Rattle.rules.specs.Bytes.{rowBytes}
 use Rattle.putting.specs.Put.{Put}
-use Rattle.putting.proofs.Putting.{same-room, none-put, both-put}
+use Rattle.putting.proofs.Putting.{same-long, none-put, both-put}
 use Rattle.writing.proofs.Lengths.{next-within}
 
 module _ {A : Type 0} (f : A → List ℕ) (a : ℕ → A) where
@@ -23,4 +22,4 @@ module _ {A : Type 0} (f : A → List ℕ) (a : ℕ → A) where
   -- with room for the whole row there is room for its next element
   pub next-fits : (i n : ℕ) {u v : List ℕ} {at next : ℕ} → Put u at (rowBytes f a i) next v → i < n
       → at + length (rowBytes f a n) ≤ length u → next + length (f (a i)) ≤ length v
-  next-fits i n p h room = omega (arith, p .counted, same-room p, next-within f a i n h)
+  next-fits i n p h room = omega (arith, p .counted, same-long p, next-within f a i n h)

@@ -1,7 +1,7 @@
 -- 01, "Order: form number 1, W, H, B, W kinds, m, three needs for each module, 2m-1 tokens.": its parts, and the most bytes that they
 -- take together.
 use mathlib.Core.List.{List, _++_}
-use Prim.Native.Nat.{ℕ, _+_, _-_, _*_}
+use Prim.Native.Nat.{ℕ, _+_, _*_}
 use lib.ListN.{length, getD}
 use Rattle.rules.specs.declared.Design.{Design}
 use Rattle.rules.specs.Design.{mostTokens, mostColumns, mostRows, lastKind, mostModules, mostNumber, needAt, nodes, widthOf, heightOf}
@@ -23,8 +23,8 @@ modulesBytes d =
 abbrev pub widest : ℕ → ℕ
 widest most = length (numberBytes most)
 
-unfoldable pub designRoom : ℕ
-designRoom =
+unfoldable pub designSize : ℕ
+designSize =
     widest 1 + widest mostColumns + widest mostRows + widest mostRows + widest lastKind * mostColumns
     + widest mostModules
     + 3 * widest mostNumber * mostModules + widest (mostModules + 1) * mostTokens

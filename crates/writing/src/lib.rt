@@ -8,7 +8,7 @@ ghost use Rattle.rules.specs.Design.{mostColumns, mostModules, needAt, lawfulNe
 ghost use Rattle.rules.specs.Bytes.{needBytes, rowBytes, designBytes};
 ghost use Rattle.rules.specs.Service.{Writes};
 ghost use Rattle.putting.specs.Put.{Put};
-ghost use Rattle.writing.specs.Parts.{headBytes, byteRow, modulesBytes, designRoom};
+ghost use Rattle.writing.specs.Parts.{headBytes, byteRow, modulesBytes, designSize};
 use lawful::value_test;
 use numbers::number_len;
 use numbers::put_number;
@@ -35,7 +35,7 @@ const MODULES_LEN: usize = if MOST_MODULES < 128 { 1 } else { 2 };
 const TOKEN_LEN: usize = if MOST_MODULES + 1 < 128 { 1 } else { 2 };
 
 // The bytes of the longest lawful design.
-const DESIGN_ROOM: usize = 1
+const DESIGN_SIZE: usize = 1
     + COLUMNS_LEN
     + 2 * ROWS_LEN
     + MOST_COLUMNS
@@ -44,10 +44,10 @@ const DESIGN_ROOM: usize = 1
     + TOKEN_LEN * MOST_TOKENS;
 
 // How many bytes the longest lawful design takes.
-pub fn design_room() -> usize
-    ensures { λ r. ⌜ r ≡ designRoom ⌝ }
+pub fn design_size() -> usize
+    ensures { λ r. ⌜ r ≡ designSize ⌝ }
 {
-    DESIGN_ROOM
+    DESIGN_SIZE
 }
 
 // How many bytes the first `n` numbers of a row take.

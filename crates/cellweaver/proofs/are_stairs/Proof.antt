@@ -1,8 +1,8 @@
 -- `cellweaver::are_stairs` meets its contract: a lawful design is within the stair test's limits. Assumes nothing.
 use native.Mathlib.Omega.{arith}
 use borrow.Author.Needs.{needs}
-use Rattle.slots.proofs.Lending.{lent-of}
 use Rattle.rules.proofs.Limits.{limits}
+use Rattle.slots.proofs.Lending.{lent-of}
 use Rattle.cellweaver.proofs.are_stairs.Statement.{statement}
 use Rattle.cellweaver.proofs.are_stairs.Tie as tie
 

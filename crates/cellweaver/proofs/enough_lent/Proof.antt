@@ -1,11 +1,11 @@
 -- `cellweaver::enough_lent` meets its contract: two lengths, compared one after the other. Assumes nothing.
 use Prim.Native.Nat.{_≤_, _<_}
 use native.Mathlib.Omega.{arith}
-use borrow.Author.Tests.{le-leb, lt-leb}
 use lib.ListN.{length}
+use borrow.Author.Tests.{le-leb, lt-leb}
+use borrow.Author.Needs.{needs}
 use Rattle.rules.specs.Service.{workOf}
 use Rattle.rules.proofs.Limits.{limits}
-use borrow.Author.Needs.{needs}
 use Rattle.cellweaver.proofs.enough_lent.Statement.{statement}
 use Rattle.cellweaver.proofs.enough_lent.Tie as tie
 

@@ -1,13 +1,13 @@
 -- `cellweaver::place` meets its contract: the design's own tests, then 8, then 9 where a slot is no stair; then the floorplan is placed
 -- from the lists as they stand. Assumes nothing.
 use mathlib.Core.Path.{sym, _∙_}
+use borrow.Author.Needs.{needs}
 use Rattle.rules.specs.declared.Design.{Design}
 use Rattle.rules.specs.Design.{Sized, LawfulDesign}
 use Rattle.rules.specs.Service.{Enough}
 use Rattle.rules.proofs.Testing.{failed, passed}
 use Rattle.cellweaver.proofs.Needed.{no-stairs, stairs}
 use Rattle.cellweaver.proofs.Answers.{enough, place-refuses, place-short, place-stranger, place-done}
-use borrow.Author.Needs.{needs}
 use Rattle.cellweaver.proofs.place.Statement.{statement}
 use Rattle.cellweaver.proofs.place.Tie as tie
 

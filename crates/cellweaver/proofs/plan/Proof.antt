@@ -1,12 +1,12 @@
 -- `cellweaver::plan` meets its contract: the design's own tests, then 8, then all nodes are listed, and the floorplan is placed from
 -- the design's own lists, which are stairs. Assumes nothing.
 use mathlib.Core.Path.{sym, _∙_}
+use borrow.Author.Needs.{needs}
 use Rattle.rules.specs.Design.{Sized, LawfulDesign}
 use Rattle.rules.specs.Service.{Enough}
 use Rattle.rules.proofs.Testing.{failed, passed}
 use Rattle.rules.proofs.Floorplans.{own-stairs}
 use Rattle.cellweaver.proofs.Answers.{enough, enough-kept, plan-refuses, plan-short, plan-done}
-use borrow.Author.Needs.{needs}
 use Rattle.cellweaver.proofs.plan.Statement.{statement}
 use Rattle.cellweaver.proofs.plan.Tie as tie
 

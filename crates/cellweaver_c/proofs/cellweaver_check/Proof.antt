@@ -1,5 +1,4 @@
 -- `cellweaver_c::cellweaver_check` meets its contract: the reading is refused, or the service answers. Assumes nothing.
-use mathlib.Core.Path.{refl}
 use borrow.Author.Needs.{needs}
 use Rattle.cellweaver_c.proofs.Asking.{unread-asked, read-asked}
 use Rattle.cellweaver_c.proofs.cellweaver_check.Statement.{statement}

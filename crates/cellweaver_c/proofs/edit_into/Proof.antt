@@ -1,4 +1,4 @@
--- `cellweaver_c::edit_into` meets its contract: without room for any design the edit sees no work and is refused; otherwise a refused
+-- `cellweaver_c::edit_into` meets its contract: where `out` can't hold every design the edit sees no work and is refused; otherwise a refused
 -- edit leaves `out`, and a granted one's design is written. Assumes nothing.
 use mathlib.Core.Path.{refl}
 use native.Mathlib.Omega.{arith}
@@ -7,8 +7,8 @@ use Rattle.cellweaver_c.proofs.Editing.{short-out, edit-refused, edit-p
 use Rattle.cellweaver_c.proofs.edit_into.Statement.{statement}
 use Rattle.cellweaver_c.proofs.edit_into.Tie as tie
 
-design-room-requires : tie.Need-design-room-requires
-design-room-requires c κs = search needs
+design-size-requires : tie.Need-design-size-requires
+design-size-requires c κs = search needs
 
 slice-aggregate-edit : tie.Need-slice-aggregate-edit
 slice-aggregate-edit c = search needs
@@ -67,7 +67,7 @@ pub edit-into-spec : {M : Type 1} → statement M
 edit-into-spec =
     tie.close
     (tie.spec
-    design-room-requires
+    design-size-requires
     slice-aggregate-edit
     edit-requires
     say-requires

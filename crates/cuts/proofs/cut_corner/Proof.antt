@@ -1,11 +1,11 @@
 -- `cuts::cut_corner` meets its contract: the top sides start with none, all left shapes are paired, and what is kept of
 -- them is the slot. Assumes nothing.
 use native.Mathlib.Omega.{arith}
+use borrow.Author.Needs.{needs}
 use Rattle.slots.specs.Lent.{slotsOn}
 use Rattle.slots.proofs.Lending.{fewer-lent, last-addressed, last-lent}
 use Rattle.cuts.specs.Cut.{heldTop}
 use Rattle.cuts.proofs.Cutting.{fresh-tops, tops-above, corner-cut}
-use borrow.Author.Needs.{needs}
 use Rattle.cuts.proofs.cut_corner.Statement.{statement}
 use Rattle.cuts.proofs.cut_corner.Tie as tie
 

@@ -1,14 +1,14 @@
 -- `cuts::cut_line` meets its contract. The loop's invariant: so many corners of the line have their slots, and all
 -- other bytes stand. Assumes nothing.
-use Prim.Native.Nat.{_≤_, _-_}
 use mathlib.Core.Path.{_≡_}
+use Prim.Native.Nat.{_≤_, _-_}
 use native.Mathlib.Omega.{arith}
-use Rattle.cuts.specs.Cut.{pairedSlot, places, onLine}
-use Rattle.cuts.proofs.Filling.{corner-on}
+use borrow.Author.Needs.{needs}
 use Rattle.slots.specs.Lent.{OnBoard, PartOn}
 use Rattle.slots.proofs.Lending.{fewer-lent, lent-same, on-listed}
+use Rattle.cuts.specs.Cut.{pairedSlot, places, onLine}
+use Rattle.cuts.proofs.Filling.{corner-on}
 use Rattle.cuts.proofs.Nodes.{node-kept, slot-laid, no-place, place-done}
-use borrow.Author.Needs.{needs}
 use Rattle.cuts.proofs.cut_line.Statement.{statement}
 use Rattle.cuts.proofs.cut_line.Tie as tie
 

@@ -1,14 +1,14 @@
 -- `cuts::cut_node` meets its contract. The loop's invariant: the lines so far have their slots, and all other bytes
 -- stand. Assumes nothing.
-use Prim.Native.Nat.{_≤_, _-_}
 use mathlib.Core.Path.{_≡_}
+use Prim.Native.Nat.{_≤_, _-_}
 use native.Mathlib.Omega.{arith}
-use Rattle.cuts.specs.Cut.{pairedSlot, TailsNone, lines, beforeLine}
+use borrow.Author.Needs.{needs}
 use Rattle.slots.specs.Lent.{PartOn}
 use Rattle.slots.proofs.Lending.{lent-same}
+use Rattle.cuts.specs.Cut.{pairedSlot, TailsNone, lines, beforeLine}
 use Rattle.cuts.proofs.Cutting.{fresh-line}
 use Rattle.cuts.proofs.Nodes.{no-line, line-done, lines-done}
-use borrow.Author.Needs.{needs}
 use Rattle.cuts.proofs.cut_node.Statement.{statement}
 use Rattle.cuts.proofs.cut_node.Tie as tie
 

@@ -1,8 +1,8 @@
 -- `cuts::fill_corner` meets its contract: the slot starts where `slot_start` says and ends within the lent bytes. Assumes nothing.
 use native.Mathlib.Omega.{arith}
+use borrow.Author.Needs.{needs}
 use Rattle.slots.proofs.Lending.{last-addressed, last-lent}
 use Rattle.cuts.proofs.Filling.{corner-filled}
-use borrow.Author.Needs.{needs}
 use Rattle.cuts.proofs.fill_corner.Statement.{statement}
 use Rattle.cuts.proofs.fill_corner.Tie as tie
 

@@ -1,11 +1,11 @@
 -- `cuts::fill_line` meets its contract. The loop's invariant: so many places of the line are filled. Assumes nothing.
-use Prim.Native.Nat.{_≤_, _<_, _-_}
 use mathlib.Core.Path.{_≡_}
+use Prim.Native.Nat.{_≤_, _<_, _-_}
 use native.Mathlib.Omega.{arith}
-use Rattle.cuts.specs.Cut.{mostPlaces, places, LineFilled}
-use Rattle.slots.specs.Lent.{OnBoard, slotsOn}
-use Rattle.cuts.proofs.Filling.{corner-on, few-places, line-none, line-next}
 use borrow.Author.Needs.{needs}
+use Rattle.slots.specs.Lent.{OnBoard, slotsOn}
+use Rattle.cuts.specs.Cut.{mostPlaces, places, LineFilled}
+use Rattle.cuts.proofs.Filling.{corner-on, few-places, line-none, line-next}
 use Rattle.cuts.proofs.fill_line.Statement.{statement}
 use Rattle.cuts.proofs.fill_line.Tie as tie
 

@@ -1,15 +1,15 @@
 -- `cuts::fill_slot` meets its contract. The loop's invariant: `low` is the least of the heights so far, and so many bytes are
 -- filled. Assumes nothing.
-use Prim.Native.Nat.{_≤_, _-_, _+_, suc}
 use mathlib.Core.Path.{_≡_, ap}
+use Prim.Native.Nat.{_≤_, _-_, _+_, suc}
 use native.Mathlib.Omega.{arith}
 use native.Mathlib.Numerals.{add-one}
+use borrow.Author.Needs.{needs}
 use Rattle.slots.specs.Written.{Filled}
-use Rattle.slots.proofs.Filling.{none-filled, one-filled}
 use Rattle.slots.specs.Lent.{bytesFrom}
+use Rattle.slots.proofs.Filling.{none-filled, one-filled}
 use Rattle.cuts.specs.Cut.{leastOf, slotTop}
 use Rattle.cuts.proofs.Filling.{least-next}
-use borrow.Author.Needs.{needs}
 use Rattle.cuts.proofs.fill_slot.Statement.{statement}
 use Rattle.cuts.proofs.fill_slot.Tie as tie
 

@@ -1,12 +1,12 @@
 -- `cuts::keep_slot` meets its contract. The loop's invariant: so many bytes of the slot are kept. Assumes nothing.
-use Prim.Native.Nat.{_≤_, _-_, _+_, suc}
 use mathlib.Core.Path.{_≡_}
+use Prim.Native.Nat.{_≤_, _-_, _+_, suc}
 use native.Mathlib.Omega.{arith}
 use lib.ListN.{getD}
+use borrow.Author.Needs.{needs}
 use Rattle.slots.specs.Written.{Filled}
 use Rattle.slots.proofs.Filling.{none-filled, one-filled, same-length as length-kept}
 use Rattle.cuts.specs.Cut.{keptByte}
-use borrow.Author.Needs.{needs}
 use Rattle.cuts.proofs.keep_slot.Statement.{statement}
 use Rattle.cuts.proofs.keep_slot.Tie as tie
 

@@ -1,7 +1,7 @@
 -- `cuts::kept` meets its contract: the definition asks the same test. Assumes nothing.
 use borrow.Author.Tests.{lt-ltb, le-ltb}
-use Rattle.cuts.specs.Cut.{keptByte}
 use borrow.Author.Needs.{needs}
+use Rattle.cuts.specs.Cut.{keptByte}
 use Rattle.cuts.proofs.kept.Statement.{statement}
 use Rattle.cuts.proofs.kept.Tie as tie
 

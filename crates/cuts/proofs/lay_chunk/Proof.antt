@@ -1,12 +1,12 @@
 -- `cuts::lay_chunk` meets its contract. The loop's invariant: so many top sides are laid. Assumes nothing.
-use Prim.Native.Nat.{_≤_, _-_}
 use mathlib.Core.Path.{_≡_}
+use Prim.Native.Nat.{_≤_, _-_}
 use native.Mathlib.Omega.{arith}
+use borrow.Author.Needs.{needs}
 use Rattle.slots.specs.Written.{Filled}
 use Rattle.slots.proofs.Filling.{none-filled}
 use Rattle.cuts.specs.Cut.{chunk, laidTop}
 use Rattle.cuts.proofs.Filling.{one-laid}
-use borrow.Author.Needs.{needs}
 use Rattle.cuts.proofs.lay_chunk.Statement.{statement}
 use Rattle.cuts.proofs.lay_chunk.Tie as tie
 

@@ -1,11 +1,11 @@
 -- `cuts::lay_slot` meets its contract. The loop's invariant: top sides are laid up to the end of a chunk. Assumes nothing.
 use Prim.Native.Nat.{_<_, _-_, _+_}
 use native.Mathlib.Omega.{arith}
+use borrow.Author.Needs.{needs}
 use Rattle.slots.specs.Written.{Filled}
 use Rattle.slots.proofs.Filling.{none-filled}
 use Rattle.cuts.specs.Cut.{chunk, laidTop}
 use Rattle.cuts.proofs.Filling.{chunk-laid, filled-laid}
-use borrow.Author.Needs.{needs}
 use Rattle.cuts.proofs.lay_slot.Statement.{statement}
 use Rattle.cuts.proofs.lay_slot.Tie as tie
 

@@ -1,8 +1,8 @@
 -- `cuts::lowered_by` meets its contract: the definition asks the same test. Assumes nothing.
-use native.Mathlib.Omega.{arith}
 use mathlib.Core.Path.{_∙_, sym}
-use Rattle.cuts.proofs.Least.{lowered-none, lowered-some}
+use native.Mathlib.Omega.{arith}
 use borrow.Author.Needs.{needs}
+use Rattle.cuts.proofs.Least.{lowered-none, lowered-some}
 use Rattle.cuts.proofs.lowered_by.Statement.{statement}
 use Rattle.cuts.proofs.lowered_by.Tie as tie
 

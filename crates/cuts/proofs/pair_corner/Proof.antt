@@ -1,13 +1,13 @@
 -- `cuts::pair_corner` meets its contract. The loop's invariant: the top sides are the least of the boxes of so many
 -- left shapes. Assumes nothing.
-use Prim.Native.Nat.{_≤_, _-_}
 use mathlib.Core.Path.{_≡_, refl}
+use Prim.Native.Nat.{_≤_, _-_}
 use native.Mathlib.Omega.{arith}
+use borrow.Author.Needs.{needs}
 use Rattle.slots.specs.Lent.{startOn, slotsOn}
 use Rattle.slots.proofs.Lending.{last-addressed, last-lent}
 use Rattle.cuts.specs.Cut.{heldTop, leastTop, TopsAre}
 use Rattle.cuts.proofs.Laying.{shapes-none, shapes-next, can-pair}
-use borrow.Author.Needs.{needs}
 use Rattle.cuts.proofs.pair_corner.Statement.{statement}
 use Rattle.cuts.proofs.pair_corner.Tie as tie
 

@@ -1,12 +1,12 @@
 -- `cuts::pair_shape` meets its contract. A shape of no height, one that ends above the chip and one with no right
 -- child's corner beside it have no box; for any other the filled slot beside it is laid. Assumes nothing.
-use native.Mathlib.Omega.{arith}
 use mathlib.Core.Path.{refl}
 use Prim.Native.Nat.{_≤_, _<_}
+use native.Mathlib.Omega.{arith}
+use borrow.Author.Needs.{needs}
 use Rattle.cuts.specs.Cut.{mostPlaces, places}
 use Rattle.cuts.proofs.Filling.{few-places}
 use Rattle.cuts.proofs.Laying.{first-on, no-corner, never-met, shape-laid}
-use borrow.Author.Needs.{needs}
 use Rattle.cuts.proofs.pair_shape.Statement.{statement}
 use Rattle.cuts.proofs.pair_shape.Tie as tie
 

@@ -1,7 +1,7 @@
 -- `leaves::enough` meets its contract. A product of columns and blocks within the limits fits. Assumes nothing.
 use native.Mathlib.Omega.{arith}
-use Rattle.leaves.proofs.Limiting.{product}
 use borrow.Author.Needs.{needs}
+use Rattle.leaves.proofs.Limiting.{product}
 use Rattle.leaves.proofs.enough.Statement.{statement}
 use Rattle.leaves.proofs.enough.Tie as tie
 

@@ -1,10 +1,10 @@
 -- `leaves::one_more` meets its contract. A test adds at most 1 to a count below the limit. Assumes nothing.
-use lib.Dec.{eqb}
-use Rattle.leaves.proofs.Limiting.{bit}
 use mathlib.Core.Path.{refl}
 use native.Mathlib.Omega.{arith}
-use Rattle.leaves.specs.Leaf.{oneMore}
+use lib.Dec.{eqb}
 use borrow.Author.Needs.{needs}
+use Rattle.leaves.specs.Leaf.{oneMore}
+use Rattle.leaves.proofs.Limiting.{bit}
 use Rattle.leaves.proofs.one_more.Statement.{statement}
 use Rattle.leaves.proofs.one_more.Tie as tie
 

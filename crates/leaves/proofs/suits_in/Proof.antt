@@ -1,9 +1,9 @@
 -- `leaves::suits_in` meets its contract: each return follows the tests that led there. Assumes nothing.
 use mathlib.Core.Path.{sym, _∙_}
-use Rattle.rules.proofs.Test.{blocksOf}
-use Rattle.leaves.specs.Leaf.{suitsIn}
 use borrow.Author.Tests.{not-true, not-false}
 use borrow.Author.Needs.{needs}
+use Rattle.rules.proofs.Test.{blocksOf}
+use Rattle.leaves.specs.Leaf.{suitsIn}
 use Rattle.leaves.proofs.suits_in.Statement.{statement}
 use Rattle.leaves.proofs.suits_in.Tie as tie
 

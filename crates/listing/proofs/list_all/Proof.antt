@@ -2,10 +2,10 @@
 use mathlib.Core.Bool.{true, false}
 use native.Mathlib.Omega.{arith}
 use lib.ListN.{getD-replicate}
+use borrow.Author.Needs.{needs}
 use Rattle.rules.specs.Design.{mostTokens}
 use Rattle.rules.proofs.Limits.{limits}
 use Rattle.listing.proofs.Passing.{all-made}
-use borrow.Author.Needs.{needs}
 use Rattle.listing.proofs.list_all.Statement.{statement}
 use Rattle.listing.proofs.list_all.Tie as tie
 

@@ -1,6 +1,6 @@
 -- `listing::list_way` meets its contract: the marks are those of the nodes on the way. Assumes nothing.
-use Rattle.listing.proofs.Passing.{same-marks}
 use borrow.Author.Needs.{needs}
+use Rattle.listing.proofs.Passing.{same-marks}
 use Rattle.listing.proofs.list_way.Statement.{statement}
 use Rattle.listing.proofs.list_way.Tie as tie
 

@@ -3,9 +3,9 @@ use mathlib.Core.Path.{_≡_}
 use Prim.Native.Nat.{_-_, _≤_}
 use native.Mathlib.Omega.{arith}
 use borrow.Author.Needs.{needs}
-use Rattle.rows.proofs.Fitting.{fits-row}
 use Rattle.choosing.specs.Descend.{placeOf}
-use Rattle.placing.proofs.Rows.{Out, none-out, one-out, same-room}
+use Rattle.rows.proofs.Fitting.{fits-row}
+use Rattle.placing.proofs.Rows.{Out, none-out, one-out, same-long}
 use Rattle.placing.proofs.rows_out.Statement.{statement}
 use Rattle.placing.proofs.rows_out.Tie as tie
 
@@ -27,7 +27,7 @@ array-copy-out-row-out c = omega arith
 row-out-requires : tie.Need-row-out-requires Inv-loop μ-loop
 row-out-requires c κs =
     let l = c .before .before .before .loop in let p = c .before .before .before .before .before .pre in let h = c .before .before .loop-test .taken in
-    (omega (arith, same-room (omega arith) (l .inv .1)), fits-row (p .on .on _ h))
+    (omega (arith, same-long (omega arith) (l .inv .1)), fits-row (p .on .on _ h))
 
 add-k : tie.Need-add-k Inv-loop μ-loop
 add-k c = omega arith
@@ -41,7 +41,7 @@ loop-again c =
     (omega arith, one-out (omega arith) (l .inv .1) (c .before .before .row-out .ensures))
 
 same-length : tie.Need-same-length Inv-loop μ-loop
-same-length c = same-room (omega arith) (c .before .loop .inv .1)
+same-length c = same-long (omega arith) (c .before .loop .inv .1)
 
 returns : tie.Need-returns Inv-loop μ-loop
 returns c =

@@ -1,8 +1,8 @@
 -- `plan_cases::run_case` meets its contract: a case ends with the bytes, if its length says more than there are. Assumes nothing.
 use Prim.Native.Nat.{_+_}
 use native.Mathlib.Omega.{arith}
-use Rattle.putting.proofs.Putting.{front-length}
 use borrow.Author.Needs.{needs}
+use Rattle.putting.proofs.Putting.{front-length}
 use Rattle.plan_cases.proofs.run_case.Statement.{statement}
 use Rattle.plan_cases.proofs.run_case.Tie as tie
 

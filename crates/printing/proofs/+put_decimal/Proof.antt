@@ -6,7 +6,7 @@ use borrow.Author.Needs.{needs}
 use borrow.Fn.Kinds.{In}
 use borrow.Fn.PlainCycle.{Measures, is, falls, and}
 use Rattle.rules.specs.Program.{decimal}
-use Rattle.putting.proofs.Putting.{none-put, both-put, same-room}
+use Rattle.putting.proofs.Putting.{none-put, both-put, same-long}
 use Rattle.printing.proofs.Putting.{one-digit, more-digits, decimal-end}
 use Rattle.printing.proofs.put_decimal.Reads as reads
 use Rattle.printing.proofs.put_decimal.Kinds as kinds
@@ -50,7 +50,7 @@ module _ (t : ℕ) where
 
   digit-requires-2 : lts.Need-put-digit-requires-2 calls given reads.Post
   digit-requires-2 c κs =
-      let put = c .before .before .before .put-decimal .ensures in (omega (arith, same-room put, decimal-end _ _ put), search needs)
+      let put = c .before .before .before .put-decimal .ensures in (omega (arith, same-long put, decimal-end _ _ put), search needs)
 
   same-length-2 : lts.Need-same-length-2 calls given reads.Post
   same-length-2 c = search needs

@@ -1,9 +1,9 @@
 -- Each arm of the match is one case of the definition. The first line takes at most 23 bytes and each module's 30, so that all
--- have room. Assumes nothing.
+-- have bytes. Assumes nothing.
 use native.Mathlib.Omega.{arith}
 use borrow.Author.Needs.{needs}
 use Rattle.rules.specs.Program.{planText}
-use Rattle.putting.proofs.Putting.{same-room, both-put}
+use Rattle.putting.proofs.Putting.{same-long, both-put}
 use Rattle.printing.proofs.Putting.{plan-end}
 use Rattle.printing.proofs.plan_text.Statement.{statement}
 use Rattle.printing.proofs.plan_text.Tie as tie
@@ -19,7 +19,7 @@ put-plan-requires c κs = search needs
 
 put-modules-requires : tie.Need-put-modules-requires
 put-modules-requires c κs =
-    let put = c .before .before .before .put-plan .ensures in (omega (arith, same-room put, plan-end _ put), search needs)
+    let put = c .before .before .before .put-plan .ensures in (omega (arith, same-long put, plan-end _ put), search needs)
 
 enum-known-answer-2 : tie.Need-enum-known-answer-2
 enum-known-answer-2 c = search needs

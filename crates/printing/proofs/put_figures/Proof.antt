@@ -8,7 +8,7 @@ use lib.ListN.{length, drop}
 use borrow.Author.Needs.{needs}
 use Rattle.rules.specs.Program.{figures}
 use Rattle.putting.specs.Put.{Put}
-use Rattle.putting.proofs.Putting.{same-room}
+use Rattle.putting.proofs.Putting.{same-long}
 use Rattle.printing.proofs.Putting.{figure-end, figure-put, newline-put}
 use Rattle.printing.proofs.put_figures.Statement.{statement}
 use Rattle.printing.proofs.put_figures.Tie as tie
@@ -44,8 +44,8 @@ loop-again c =
     let put = c .before .before .put-figure .ensures in
     let turn = c .before .before .before .before .before in let now = turn .before .loop in (
       search needs,
-      same-room put ∙ now .inv .1,
-      omega (arith, same-room put, figure-end _ put),
+      same-long put ∙ now .inv .1,
+      omega (arith, same-long put, figure-end _ put),
       λ r after p. now .inv .3 r after (figure-put _ (now .i) (turn .loop-test .taken) put p),
     )
 

@@ -2,7 +2,7 @@
 use native.Mathlib.Omega.{arith}
 use borrow.Author.Needs.{needs}
 use Rattle.rules.specs.Program.{moduleLine}
-use Rattle.putting.proofs.Putting.{same-room, both-put}
+use Rattle.putting.proofs.Putting.{same-long, both-put}
 use Rattle.printing.proofs.Putting.{decimal-end}
 use Rattle.printing.proofs.put_module.Statement.{statement}
 use Rattle.printing.proofs.put_module.Tie as tie
@@ -18,7 +18,7 @@ slice-aggregate-put-figures c = search needs
 
 put-figures-requires : tie.Need-put-figures-requires
 put-figures-requires c κs =
-    let put = c .before .before .before .before .put-decimal .ensures in omega (arith, same-room put, decimal-end _ _ put)
+    let put = c .before .before .before .before .put-decimal .ensures in omega (arith, same-long put, decimal-end _ _ put)
 
 same-length : tie.Need-same-length
 same-length c = search needs

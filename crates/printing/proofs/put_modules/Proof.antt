@@ -1,4 +1,4 @@
--- The lines of the first k modules are put, and there is room for the others, 30 bytes each. Assumes nothing.
+-- The lines of the first k modules are put, and there are bytes for the others, 30 bytes each. Assumes nothing.
 use mathlib.Core.Path.{_≡_}
 use Prim.Native.Nat.{_+_, _-_, _*_, _≤_}
 use native.Mathlib.Omega.{arith}
@@ -6,7 +6,7 @@ use lib.ListN.{length}
 use borrow.Author.Needs.{needs}
 use Rattle.rules.specs.Program.{moduleLines}
 use Rattle.putting.specs.Put.{Put}
-use Rattle.putting.proofs.Putting.{same-room}
+use Rattle.putting.proofs.Putting.{same-long}
 use Rattle.printing.proofs.Putting.{line-end, no-line-put, line-put}
 use Rattle.printing.proofs.put_modules.Statement.{statement}
 use Rattle.printing.proofs.put_modules.Tie as tie
@@ -35,11 +35,11 @@ loop-again c =
     let now = c .before .before .before .before .before .loop in let put = c .before .before .put-module .ensures in (
       line-put _ _ (now .inv .0) put,
       search needs,
-      omega (arith, same-room put, line-end _ _ put),
+      omega (arith, same-long put, line-end _ _ put),
     )
 
 same-length : tie.Need-same-length Inv-loop μ-loop
-same-length c = same-room (c .before .loop .inv .0)
+same-length c = same-long (c .before .loop .inv .0)
 
 returns : tie.Need-returns Inv-loop μ-loop
 returns c =

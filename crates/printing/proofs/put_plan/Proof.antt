@@ -3,7 +3,7 @@ use mathlib.Core.List.{[], _∷_}
 use native.Mathlib.Omega.{arith}
 use lib.ListN.{length-set}
 use borrow.Author.Needs.{needs}
-use Rattle.putting.proofs.Putting.{same-room, stored, both-put}
+use Rattle.putting.proofs.Putting.{same-long, stored, both-put}
 use Rattle.printing.proofs.put_plan.Statement.{statement}
 use Rattle.printing.proofs.put_plan.Tie as tie
 
@@ -26,7 +26,7 @@ returns : tie.Need-returns
 returns c = both-put (stored (112 ∷ 108 ∷ 97 ∷ 110 ∷ []) (omega arith)) (c .before .before .put-figures .ensures)
 
 same-length : tie.Need-same-length
-same-length c = same-room (returns c)
+same-length c = same-long (returns c)
 
 pub put-plan-spec : {M : Type 1} → statement M
 put-plan-spec =

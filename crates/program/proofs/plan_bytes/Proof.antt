@@ -1,7 +1,7 @@
 -- `program::plan_bytes` meets its contract: the design, the answer and its text, one after the other. Assumes nothing.
 use native.Mathlib.Omega.{arith}
-use Rattle.program.proofs.Reading.{few-read}
 use borrow.Author.Needs.{needs}
+use Rattle.program.proofs.Reading.{few-read}
 use Rattle.program.proofs.plan_bytes.Statement.{statement}
 use Rattle.program.proofs.plan_bytes.Tie as tie
 

@@ -1,6 +1,6 @@
 -- `program::plan_read` meets its contract: a reading is refused or done, and not both. Assumes nothing.
-use Rattle.program.proofs.Reading.{answers-refused, answers-planned}
 use borrow.Author.Needs.{needs}
+use Rattle.program.proofs.Reading.{answers-refused, answers-planned}
 use Rattle.program.proofs.plan_read.Statement.{statement}
 use Rattle.program.proofs.plan_read.Tie as tie
 

@@ -2,9 +2,9 @@
 use mathlib.Core.Path.{_≡_}
 use native.Mathlib.Omega.{arith}
 use lib.ListN.{length}
+use denote.Ref.{now}
 use borrow.Author.Needs.{needs}
 use borrow.Author.Tests.{eq-eqb, ne-eqb}
-use denote.Ref.{now}
 use Rattle.rules.specs.Bytes.{took}
 use Rattle.reading.specs.Stages.{sizesAt, kindsAt, needsAt, treeAt}
 use Rattle.reading.proofs.Answers.{stage-done, stage-refused}

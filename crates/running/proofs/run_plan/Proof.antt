@@ -1,6 +1,6 @@
 -- `running::run_plan` meets its contract: every length that it lends is there. Assumes nothing.
-use Rattle.putting.proofs.Putting.{ends-inside, front-length}
 use borrow.Author.Needs.{needs}
+use Rattle.putting.proofs.Putting.{ends-inside, front-length}
 use Rattle.running.proofs.run_plan.Statement.{statement}
 use Rattle.running.proofs.run_plan.Tie as tie
 

@@ -4,8 +4,8 @@ use Prim.Native.Nat.{_-_, _≤_}
 use native.Mathlib.Omega.{arith}
 use borrow.Author.Needs.{needs}
 use Rattle.rules.specs.Search.{all}
-use Rattle.stairs.specs.Walk.{zeroAt}
 use Rattle.rules.proofs.Testing.{all-and}
+use Rattle.stairs.specs.Walk.{zeroAt}
 use Rattle.stairs.proofs.all_zero.Statement.{statement}
 use Rattle.stairs.proofs.all_zero.Tie as tie
 

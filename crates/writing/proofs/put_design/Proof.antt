@@ -3,8 +3,8 @@
 use native.Mathlib.Omega.{arith}
 use borrow.Author.Needs.{needs}
 use Rattle.rules.proofs.Limits.{limits}
-use Rattle.writing.proofs.Lengths.{design-parts, length-design}
 use Rattle.putting.proofs.Putting.{both-put, put-in-front}
+use Rattle.writing.proofs.Lengths.{design-parts, length-design}
 use Rattle.writing.proofs.put_design.Statement.{statement}
 use Rattle.writing.proofs.put_design.Tie as tie
 

@@ -1,10 +1,10 @@
 -- The four numbers are put one behind the other; the chip's are within its limits. Assumes nothing.
 use native.Mathlib.Omega.{arith}
 use borrow.Author.Needs.{needs}
-use Rattle.writing.specs.Parts.{headBytes}
 use Rattle.rules.proofs.Limits.{limits}
-use Rattle.writing.proofs.Lengths.{length-head}
 use Rattle.putting.proofs.Putting.{both-put}
+use Rattle.writing.specs.Parts.{headBytes}
+use Rattle.writing.proofs.Lengths.{length-head}
 use Rattle.writing.proofs.put_head.Statement.{statement}
 use Rattle.writing.proofs.put_head.Tie as tie
 

@@ -2,10 +2,10 @@
 -- has no more modules and tokens than there are places. Assumes nothing.
 use native.Mathlib.Omega.{arith}
 use borrow.Author.Needs.{needs}
-use Rattle.writing.specs.Parts.{modulesBytes}
 use Rattle.rules.proofs.Limits.{limits}
-use Rattle.writing.proofs.Lengths.{length-modules}
 use Rattle.putting.proofs.Putting.{both-put}
+use Rattle.writing.specs.Parts.{modulesBytes}
+use Rattle.writing.proofs.Lengths.{length-modules}
 use Rattle.writing.proofs.put_modules.Statement.{statement}
 use Rattle.writing.proofs.put_modules.Tie as tie
 

@@ -3,8 +3,8 @@ use native.Mathlib.Omega.{arith}
 use borrow.Author.Needs.{needs}
 use Rattle.rules.specs.Bytes.{needBytes}
 use Rattle.rules.proofs.Limits.{need-limits}
-use Rattle.writing.proofs.Lengths.{length-need}
 use Rattle.putting.proofs.Putting.{both-put}
+use Rattle.writing.proofs.Lengths.{length-need}
 use Rattle.writing.proofs.put_need.Statement.{statement}
 use Rattle.writing.proofs.put_need.Tie as tie
 

@@ -5,9 +5,9 @@ use native.Mathlib.Omega.{arith}
 use borrow.Author.Needs.{needs}
 use Rattle.rules.specs.Design.{needAt}
 use Rattle.rules.specs.Bytes.{needBytes, rowBytes}
-use Rattle.putting.specs.Put.{Put}
 use Rattle.rules.proofs.Limits.{limits}
-use Rattle.putting.proofs.Putting.{same-room}
+use Rattle.putting.specs.Put.{Put}
+use Rattle.putting.proofs.Putting.{same-long}
 use Rattle.writing.proofs.Putting.{row-begun, row-grown, next-fits}
 use Rattle.writing.proofs.put_needs.Statement.{statement}
 use Rattle.writing.proofs.put_needs.Tie as tie
@@ -46,7 +46,7 @@ loop-again c =
     (search needs, row-grown _ _ _ (here .loop .inv .1) (c .before .before .put-need .ensures))
 
 same-length : tie.Need-same-length Inv-loop μ-loop
-same-length c = same-room (c .before .loop .inv .1)
+same-length c = same-long (c .before .loop .inv .1)
 
 returns : tie.Need-returns Inv-loop μ-loop
 returns c = let e : c .before .loop .k ≡ c .before .before .before .args .t3 .modules = omega arith in rw e at (c .before .loop .inv .1)

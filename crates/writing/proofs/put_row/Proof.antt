@@ -4,8 +4,8 @@ use Prim.Native.Nat.{_-_, _≤_}
 use native.Mathlib.Omega.{arith}
 use borrow.Author.Needs.{needs}
 use Rattle.putting.specs.Put.{Put}
+use Rattle.putting.proofs.Putting.{same-long}
 use Rattle.writing.specs.Parts.{byteRow}
-use Rattle.putting.proofs.Putting.{same-room}
 use Rattle.writing.proofs.Putting.{row-begun, row-grown, next-fits}
 use Rattle.writing.proofs.put_row.Statement.{statement}
 use Rattle.writing.proofs.put_row.Tie as tie
@@ -44,7 +44,7 @@ loop-again c =
     (search needs, row-grown _ _ _ (here .loop .inv .1) (c .before .before .put-number .ensures))
 
 same-length : tie.Need-same-length Inv-loop μ-loop
-same-length c = same-room (c .before .loop .inv .1)
+same-length c = same-long (c .before .loop .inv .1)
 
 returns : tie.Need-returns Inv-loop μ-loop
 returns c = let e : c .before .loop .i ≡ c .before .before .before .before .args .n = omega arith in rw e at (c .before .loop .inv .1)
