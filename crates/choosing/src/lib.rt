@@ -1,16 +1,5 @@
 // Choosing one floorplan from stored lists, whatever bytes they are: the root's shape of least area, at each cut the first pair, and
 // the rectangles that going down gives.
-ghost use mathlib.Core.Path.{_≡_};
-ghost use Prim.Native.Nat.{suc, _+_, _-_, _*_, _≤_, _<_, max};
-ghost use lib.ListN.{length};
-ghost use Rattle.rules.specs.Chip.{corner};
-ghost use Rattle.rules.specs.Tree.{tokenOf};
-ghost use Rattle.rules.specs.Choice.{beside, pairing};
-ghost use Rattle.rules.specs.Design.{mostTokens, mostColumns, mostModules};
-ghost use Rattle.slots.specs.Lent.{OnBoard, slotsOn, bytesFrom, Lent};
-ghost use Rattle.choosing.specs.Choose.{Near, Storable, shapeAt, chosenShape, betterOf, pairIn, takenIf};
-ghost use Rattle.choosing.specs.Choose.{firstOf, firstPair, makesWhole, pairAt, pairBeside};
-ghost use Rattle.choosing.specs.Descend.{firstDescent, stoppedAt, downLeaf, givenRooms, downCut, downToken, Settled, LaysOut};
 use rules::Columns;
 use rules::Corner;
 use rules::Direction;
@@ -23,6 +12,17 @@ use rules::Token;
 use slots::Board;
 use slots::slot_start;
 use tokens::token_of;
+ghost use mathlib.Core.Path.{_≡_};
+ghost use Prim.Native.Nat.{suc, _+_, _-_, _*_, _≤_, _<_, max};
+ghost use lib.ListN.{length};
+ghost use Rattle.rules.specs.Chip.{corner};
+ghost use Rattle.rules.specs.Tree.{tokenOf};
+ghost use Rattle.rules.specs.Choice.{beside, pairing};
+ghost use Rattle.rules.specs.Design.{mostTokens, mostColumns, mostModules};
+ghost use Rattle.slots.specs.Lent.{OnBoard, slotsOn, bytesFrom, Lent};
+ghost use Rattle.choosing.specs.Choose.{Near, Storable, shapeAt, chosenShape, betterOf, pairIn, takenIf};
+ghost use Rattle.choosing.specs.Choose.{firstOf, firstPair, makesWhole, pairAt, pairBeside};
+ghost use Rattle.choosing.specs.Descend.{firstDescent, stoppedAt, downLeaf, givenRooms, downCut, downToken, Settled, LaysOut};
 
 // What the search for a pair finds: the left child's shape and the right child's, or none.
 pub enum Pair {

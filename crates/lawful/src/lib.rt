@@ -1,12 +1,4 @@
 // The tests of a design handed over as a value, which every service runs first: 01's limits, then its tree rules, in file order.
-ghost use mathlib.Core.Path.{_≡_};
-ghost use Prim.Native.Nat.{_*_, _≤_, _<_};
-ghost use lib.Dec.{leb};
-ghost use Rattle.rules.specs.Search.{all};
-ghost use Rattle.rules.specs.Chip.{kindAt};
-ghost use Rattle.rules.specs.Design.{mostColumns, lastKind, mostModules, needAt, nodes, standingOf, inRange, lawfulNeed, withinLimits, treeTest, lawfulChip};
-ghost use Rattle.lawful.specs.Tested.{Tested};
-ghost use Rattle.lawful.specs.Stack.{emptyStack, afterCut, afterModule, afterToken};
 use rules::Chip;
 use rules::Design;
 use rules::LAST_KIND;
@@ -19,6 +11,14 @@ use rules::Refusal;
 use rules::Reply;
 use rules::Token;
 use tokens::token_of;
+ghost use mathlib.Core.Path.{_≡_};
+ghost use Prim.Native.Nat.{_*_, _≤_, _<_};
+ghost use lib.Dec.{leb};
+ghost use Rattle.rules.specs.Search.{all};
+ghost use Rattle.rules.specs.Chip.{kindAt};
+ghost use Rattle.rules.specs.Design.{mostColumns, lastKind, mostModules, needAt, nodes, standingOf, inRange, lawfulNeed, withinLimits, treeTest, lawfulChip};
+ghost use Rattle.lawful.specs.Tested.{Tested};
+ghost use Rattle.lawful.specs.Stack.{emptyStack, afterCut, afterModule, afterToken};
 
 // Of the things that the tokens read so far leave standing: the modules in them, and how many things they are.
 pub struct Stack {

@@ -1,14 +1,4 @@
 // Reading a design from bytes: each number is judged as it is read, and the first refusal is the reply.
-ghost use mathlib.Core.Path.{_≡_};
-ghost use mathlib.Core.List.{[]};
-ghost use Prim.Native.Nat.{_≤_};
-ghost use lib.Dec.{eqb};
-ghost use Rattle.rules.specs.declared.Refusal.the-variants.{WrongForm};
-ghost use Rattle.rules.specs.Design.{mostColumns, mostModules};
-ghost use Rattle.rules.specs.Bytes.{checkedAt, limitedAt, needOf, chipFrom, designFrom};
-ghost use Rattle.rules.specs.Service.{zeros, Reads};
-ghost use Rattle.numbers.specs.Replies.{replyOf};
-ghost use Rattle.reading.specs.Stages.{replied, stage, oneNeed, sizesAt, kindsAt, needsAt, treeAt};
 use numbers::NumberReply;
 use rules::Chip;
 use rules::Columns;
@@ -24,6 +14,16 @@ use rules::Refusal;
 use rules::Reply;
 use rules::Rows;
 use tokens::token_of_number;
+ghost use mathlib.Core.Path.{_≡_};
+ghost use mathlib.Core.List.{[]};
+ghost use Prim.Native.Nat.{_≤_};
+ghost use lib.Dec.{eqb};
+ghost use Rattle.rules.specs.declared.Refusal.the-variants.{WrongForm};
+ghost use Rattle.rules.specs.Design.{mostColumns, mostModules};
+ghost use Rattle.rules.specs.Bytes.{checkedAt, limitedAt, needOf, chipFrom, designFrom};
+ghost use Rattle.rules.specs.Service.{zeros, Reads};
+ghost use Rattle.numbers.specs.Replies.{replyOf};
+ghost use Rattle.reading.specs.Stages.{replied, stage, oneNeed, sizesAt, kindsAt, needsAt, treeAt};
 
 // A need before it is read.
 const NO_NEED: Need = Need {

@@ -1,11 +1,11 @@
 // Tokens: what a number says as a token, told by one match, and what a cut is turned into.
+use rules::Direction;
+use rules::MOST_MODULES;
+use rules::Token;
 ghost use mathlib.Core.Path.{_≡_};
 ghost use Rattle.rules.specs.Tree.{tokenOf, numberOf, isCut, isModule};
 ghost use Rattle.rules.specs.Design.{mostModules};
 ghost use Rattle.rules.specs.Edit.{other};
-use rules::Direction;
-use rules::MOST_MODULES;
-use rules::Token;
 
 // The number of the largest module's token.
 const LAST_MODULE: usize = MOST_MODULES + 1;

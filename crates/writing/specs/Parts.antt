@@ -26,5 +26,4 @@ widest most = length (numberBytes most)
 unfoldable pub designSize : ℕ
 designSize =
     widest 1 + widest mostColumns + widest mostRows + widest mostRows + widest lastKind * mostColumns
-    + widest mostModules
-    + 3 * widest mostNumber * mostModules + widest (mostModules + 1) * mostTokens
+    + widest mostModules + 3 * widest mostNumber * mostModules + widest (mostModules + 1) * mostTokens

@@ -1,14 +1,4 @@
 // Writing a design to bytes: its value is tested first, then the room that is lent, and only then a byte is put.
-ghost use mathlib.Core.Path.{_≡_};
-ghost use mathlib.Core.Bool.{So};
-ghost use Prim.Native.Nat.{_+_, _≤_};
-ghost use mathlib.Core.List.{_++_};
-ghost use lib.ListN.{length, drop};
-ghost use Rattle.rules.specs.Design.{mostColumns, mostModules, needAt, lawfulNeed, LawfulDesign};
-ghost use Rattle.rules.specs.Bytes.{needBytes, rowBytes, designBytes};
-ghost use Rattle.rules.specs.Service.{Writes};
-ghost use Rattle.putting.specs.Put.{Put};
-ghost use Rattle.writing.specs.Parts.{headBytes, byteRow, modulesBytes, designSize};
 use lawful::value_test;
 use numbers::number_len;
 use numbers::put_number;
@@ -21,6 +11,16 @@ use rules::Need;
 use rules::Refusal;
 use rules::Reply;
 use rules::Written;
+ghost use mathlib.Core.Path.{_≡_};
+ghost use mathlib.Core.Bool.{So};
+ghost use mathlib.Core.List.{_++_};
+ghost use Prim.Native.Nat.{_+_, _≤_};
+ghost use lib.ListN.{length, drop};
+ghost use Rattle.rules.specs.Design.{mostColumns, mostModules, needAt, lawfulNeed, LawfulDesign};
+ghost use Rattle.rules.specs.Bytes.{needBytes, rowBytes, designBytes};
+ghost use Rattle.rules.specs.Service.{Writes};
+ghost use Rattle.putting.specs.Put.{Put};
+ghost use Rattle.writing.specs.Parts.{headBytes, byteRow, modulesBytes, designSize};
 
 // The number that stands first in every design's bytes.
 const FORM_NUMBER: usize = 1;
