@@ -3,3 +3,4 @@ mod Asking
 mod Editing
 mod Once
 mod Calling
+mod Figures
