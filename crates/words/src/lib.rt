@@ -1,0 +1,75 @@
+// A line's words, which stand between its spaces, and what words say: numbers, bytes, and how many bytes to lend.
+mod bytes;
+mod lending;
+mod numbers;
+
+pub use bytes::bytes_in;
+pub use bytes::put_bytes;
+pub use bytes::says_bytes;
+use check::same;
+pub use lending::Lending;
+pub use lending::Patch;
+pub use lending::lending_in;
+pub use lending::patch_in;
+pub use numbers::Number;
+pub use numbers::number_in;
+pub use numbers::numbers_in;
+ghost use Prim.Native.Nat.{_≤_};
+ghost use lib.ListN.{length};
+
+// Where such a byte stands next, from `from` on, or the end if there is none.
+pub fn next_of(b: u8, s: &[u8], from: usize) -> usize
+    requires { ⌜ from ≤ length (now s) ⌝ }
+    ensures { λ r. ⌜ (from ≤ r) × (r ≤ length (now (s .entry))) ⌝ }
+{
+    let mut at = from;
+    while at < s.len() {
+        if s[at] == b {
+            return at;
+        }
+        at += 1;
+    }
+    at
+}
+
+// How many words a line has: one more than spaces.
+pub fn count(line: &[u8]) -> usize {
+    let mut n = 1;
+    let mut space = next_of(b' ', line, 0);
+    while space < line.len() {
+        n += 1;
+        space = next_of(b' ', line, space + 1);
+    }
+    n
+}
+
+// A line from its word `k` on, counted from 0; no bytes if there are fewer words.
+pub fn words_from(line: &[u8], k: usize) -> &[u8] {
+    let mut from = 0;
+    for _ in 0..k {
+        let space = next_of(b' ', line, from);
+        if space == line.len() {
+            return &line[space..];
+        }
+        from = space + 1;
+    }
+    &line[from..]
+}
+
+// Word `k` of a line, counted from 0; no bytes if there are fewer words.
+pub fn word(line: &[u8], k: usize) -> &[u8] {
+    let rest = words_from(line, k);
+    let to = next_of(b' ', rest, 0);
+    &rest[0..to]
+}
+
+// Which of the names it is, counted from 0; as many as there are if it is none of them.
+pub fn place_among(names: &[u8], name: &[u8]) -> usize {
+    let n = count(names);
+    for k in 0..n {
+        if same(word(names, k), name) {
+            return k;
+        }
+    }
+    n
+}
