@@ -4,7 +4,7 @@ use crate::numbers::Number;
 use crate::numbers::number_in;
 use crate::numbers::numbers_in;
 use crate::word;
-use crate::words_from;
+use crate::words;
 ghost use Prim.Native.Nat.{_+_, _≤_};
 
 const MOST_BYTE: usize = 255;
@@ -33,7 +33,7 @@ pub fn lending_in(line: &[u8], room: usize) -> Lending
         fill: 0,
     };
     let mut said = [0usize; 2];
-    if !numbers_in(b' ', words_from(line, 1), &mut said) {
+    if !numbers_in(b' ', words(line, 1, 2), &mut said) {
         return bad;
     }
     let n = said[0];

@@ -43,24 +43,34 @@ pub fn count(line: &[u8]) -> usize {
     n
 }
 
-// A line from its word `k` on, counted from 0; no bytes if there are fewer words.
-pub fn words_from(line: &[u8], k: usize) -> &[u8] {
+// Where word `k` starts, counted from 0: after `k` spaces, or at the end if there are fewer.
+fn start_of(line: &[u8], k: usize) -> usize
+    ensures { λ r. ⌜ r ≤ length (now (line .entry)) ⌝ }
+{
     let mut from = 0;
     for _ in 0..k {
         let space = next_of(b' ', line, from);
         if space == line.len() {
-            return &line[space..];
+            return space;
         }
         from = space + 1;
     }
-    &line[from..]
+    from
+}
+
+// Words `first` to `last` of a line, counted from 0, with the spaces between; no bytes if there are fewer words.
+pub fn words(line: &[u8], first: usize, last: usize) -> &[u8]
+    requires { ⌜ first ≤ last ⌝ }
+{
+    let from = start_of(line, first);
+    let rest = &line[from..];
+    let to = next_of(b' ', rest, start_of(rest, last - first));
+    &rest[0..to]
 }
 
 // Word `k` of a line, counted from 0; no bytes if there are fewer words.
 pub fn word(line: &[u8], k: usize) -> &[u8] {
-    let rest = words_from(line, k);
-    let to = next_of(b' ', rest, 0);
-    &rest[0..to]
+    words(line, k, k)
 }
 
 // Which of the names it is, counted from 0; as many as there are if it is none of them.

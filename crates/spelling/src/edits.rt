@@ -1,0 +1,54 @@
+// The edit that a line says: `edit turn T`, or `edit need K CLBS RAMS MULTIPLIERS`.
+use check::same;
+use rules::Edit;
+use rules::Need;
+use words::Number;
+use words::count;
+use words::number_in;
+use words::numbers_in;
+use words::word;
+use words::words;
+
+// An edit, if a line says one.
+pub enum Asked {
+    Edit(Edit),
+    Bad,
+}
+
+// T, the word after `turn`.
+fn turn_in(line: &[u8]) -> Asked {
+    if !same(word(line, 1), b"turn") {
+        return Asked::Bad;
+    }
+    let Number::Value(position) = number_in(word(line, 2)) else {
+        return Asked::Bad;
+    };
+    Asked::Edit(Edit::Turn { position })
+}
+
+// K CLBS RAMS MULTIPLIERS, the words after `need`.
+fn need_in(line: &[u8]) -> Asked {
+    if !same(word(line, 1), b"need") {
+        return Asked::Bad;
+    }
+    let mut said = [0usize; 4];
+    if !numbers_in(b' ', words(line, 2, 5), &mut said) {
+        return Asked::Bad;
+    }
+    let module = said[0];
+    let need = Need {
+        clbs: said[1],
+        rams: said[2],
+        multipliers: said[3],
+    };
+    Asked::Edit(Edit::Change { module, need })
+}
+
+// The edit in a line whose first word is `edit`, by how many words it has.
+pub fn edit_in(line: &[u8]) -> Asked {
+    match count(line) {
+        3 => turn_in(line),
+        6 => need_in(line),
+        _ => Asked::Bad,
+    }
+}

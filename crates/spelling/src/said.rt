@@ -1,0 +1,117 @@
+// The design that a line says after its first word: W H B KINDS M NEEDS TOKENS.
+use crate::MOST_NUMBERS;
+use crate::NEED_NUMBERS;
+use crate::no_design;
+use check::same;
+use rules::Chip;
+use rules::Columns;
+use rules::Design;
+use rules::MOST_COLUMNS;
+use rules::MOST_MODULES;
+use rules::MOST_TOKENS;
+use rules::Need;
+use rules::Rows;
+use words::Number;
+use words::number_in;
+use words::numbers_in;
+use words::put_bytes;
+use words::says_bytes;
+use words::word;
+use words::words;
+
+// A design, if a line says one.
+pub struct Said {
+    pub good: bool,
+    pub design: Design,
+}
+
+// A chip, if words say one.
+struct SaidChip {
+    good: bool,
+    chip: Chip,
+}
+
+// Needs, if a word says such.
+struct SaidNeeds {
+    good: bool,
+    needs: [Need; MOST_MODULES],
+}
+
+// The needs of these numbers, three for each module.
+fn needs_of(values: [usize; MOST_NUMBERS]) -> [Need; MOST_MODULES] {
+    let none = Need {
+        clbs: 0,
+        rams: 0,
+        multipliers: 0,
+    };
+    let mut needs = [none; MOST_MODULES];
+    for k in 0..MOST_MODULES {
+        let first = NEED_NUMBERS * k;
+        needs[k] = Need {
+            clbs: values[first],
+            rams: values[first + 1],
+            multipliers: values[first + 2],
+        };
+    }
+    needs
+}
+
+// NEEDS: numbers with commas between, or `-` for none; places that are not given are zero.
+fn needs_in(word: &[u8]) -> SaidNeeds {
+    let mut values = [0usize; MOST_NUMBERS];
+    let good = same(word, b"-") || numbers_in(b',', word, &mut values);
+    SaidNeeds {
+        good,
+        needs: needs_of(values),
+    }
+}
+
+// W H B KINDS, the first of those words; places that are not given are zero.
+fn chip_in(line: &[u8]) -> SaidChip {
+    let mut sizes = [0usize; 3];
+    let good = numbers_in(b' ', words(line, 1, 3), &mut sizes);
+    let said = word(line, 4);
+    let mut kinds = [0u8; MOST_COLUMNS];
+    put_bytes(said, &mut kinds);
+    let chip = Chip {
+        width: Columns(sizes[0]),
+        height: Rows(sizes[1]),
+        block: Rows(sizes[2]),
+        kinds,
+    };
+    SaidChip {
+        good: good && says_bytes(said, MOST_COLUMNS),
+        chip,
+    }
+}
+
+// No design.
+fn nothing_said() -> Said {
+    Said {
+        good: false,
+        design: no_design(),
+    }
+}
+
+// The design in the seven words after a line's first.
+pub fn design_in(line: &[u8]) -> Said {
+    let chip_said = chip_in(line);
+    let chip = chip_said.chip;
+    let Number::Value(modules) = number_in(word(line, 5)) else {
+        return nothing_said();
+    };
+    let needs_said = needs_in(word(line, 6));
+    let needs = needs_said.needs;
+    let said = word(line, 7);
+    let mut tokens = [0u8; MOST_TOKENS];
+    put_bytes(said, &mut tokens);
+    Said {
+        good: chip_said.good && needs_said.good && says_bytes(said, MOST_TOKENS),
+        design: Design {
+            chip,
+            modules,
+            needs,
+            tokens,
+        },
+    }
+}
