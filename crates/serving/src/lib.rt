@@ -1,0 +1,117 @@
+// The services as a line asks them: which one, what the line says to it, and its answer as text in lent bytes.
+mod answers;
+mod names;
+mod writing;
+
+use answers::Answer;
+use answers::Shown;
+use answers::handed_back;
+use answers::no_answer;
+use answers::planned;
+use answers::put_answer;
+use answers::replied;
+use names::Service;
+use names::service_in;
+use rules::Design;
+use spelling::Asked;
+use spelling::edit_in;
+use words::Number;
+use words::bytes_in;
+use words::put_bytes;
+use words::word;
+ghost use mathlib.Core.Path.{_≡_};
+ghost use Prim.Native.Nat.{_≤_};
+ghost use lib.ListN.{length};
+
+// More bytes than a line's `read` can have.
+const MOST_READ: usize = 8192;
+
+// What a line comes to: whether it asks a service, the design that is then held, and the length of the answer.
+pub struct Answered {
+    pub good: bool,
+    pub design: Design,
+    pub length: usize,
+}
+
+// A line that asks no service.
+fn unanswered(design: Design) -> Answered
+    ensures { λ r. ⌜ r .length ≡ 0 ⌝ }
+{
+    Answered {
+        good: false,
+        design,
+        length: 0,
+    }
+}
+
+// `read BYTES`: reads a design, which is then held: read NUMBER POSITION DESIGN
+fn read(line: &[u8], design: Design) -> Answer
+    ensures { λ r. ⌜ r .count ≤ 3 ⌝ }
+{
+    let said = word(line, 1);
+    let Number::Value(n) = bytes_in(said) else {
+        return no_answer(design);
+    };
+    if n > MOST_READ {
+        return no_answer(design);
+    }
+    let mut bytes = [0u8; MOST_READ];
+    put_bytes(said, &mut bytes);
+    handed_back(cellweaver::read(&bytes[0..n]), 2, Shown::Design)
+}
+
+// `edit turn T` and `edit need K CLBS RAMS MULTIPLIERS`: edits the design; the one handed back is then held:
+// edit NUMBER DESIGN WORK
+fn edit(line: &[u8], design: Design, work: &mut [u8]) -> Answer
+    ensures { λ r. ⌜ r .count ≤ 3 ⌝ }
+{
+    let Asked::Edit(edit) = edit_in(line) else {
+        return no_answer(design);
+    };
+    handed_back(
+        cellweaver::edit(design, edit, work),
+        1,
+        Shown::DesignAndWork,
+    )
+}
+
+// Asks the service.
+fn ask(service: Service, line: &[u8], design: Design, work: &mut [u8], rows: &mut [u8]) -> Answer
+    ensures { λ r. ⌜ r .count ≤ 3 ⌝ }
+{
+    match service {
+        Service::Read => read(line, design),
+        Service::List => replied(design, cellweaver::list(design, work), 1, Shown::Work),
+        Service::Plan => planned(design, cellweaver::plan(design, work, rows)),
+        Service::Place => planned(design, cellweaver::place(design, work, rows)),
+        Service::Edit => edit(line, design, work),
+        Service::Check => replied(design, cellweaver::check(design, rows), 2, Shown::Nothing),
+        _ => no_answer(design),
+    }
+}
+
+// Serves a line that asks a service, over the design that is held and the bytes that are lent, and puts its answer into `out`.
+pub fn serve(
+    line: &[u8],
+    design: Design,
+    work: &mut [u8],
+    rows: &mut [u8],
+    out: &mut [u8],
+) -> Answered
+    ensures { λ r. ⌜ r .length ≤ length (now (out .exit)) ⌝ }
+{
+    let service = service_in(line);
+    if let Service::Write = service {
+        return writing::write(line, design, out);
+    }
+    let answer = ask(service, line, design, work, rows);
+    let design = answer.design;
+    if !answer.good {
+        return unanswered(design);
+    }
+    Answered {
+        good: true,
+        design,
+        length: put_answer(out, word(line, 0), answer, rows, work),
+    }
+}

@@ -1,0 +1,38 @@
+// `write N F`: writes the held design into n bytes f, which are then shown: write NUMBER COUNT BYTES
+use crate::Answered;
+use crate::answers::put_answer;
+use crate::answers::written;
+use crate::unanswered;
+use rules::Design;
+use words::lending_in;
+use words::word;
+ghost use Prim.Native.Nat.{_≤_};
+ghost use lib.ListN.{length};
+
+// The most bytes that a `write` has.
+const MOST_WRITTEN: usize = 4096;
+
+// Writes a design, and puts the answer.
+fn write_to(bytes: &mut [u8], name: &[u8], design: Design, out: &mut [u8]) -> usize
+    ensures { λ r. ⌜ r ≤ length (now (out .exit)) ⌝ }
+{
+    let answer = written(design, cellweaver::write(design, bytes));
+    put_answer(out, name, answer, bytes, b"")
+}
+
+pub fn write(line: &[u8], design: Design, out: &mut [u8]) -> Answered
+    ensures { λ r. ⌜ r .length ≤ length (now (out .exit)) ⌝ }
+{
+    let lending = lending_in(line, MOST_WRITTEN);
+    if !lending.good {
+        return unanswered(design);
+    }
+    let n = lending.n;
+    let fill = lending.fill;
+    let mut bytes = [fill; MOST_WRITTEN];
+    Answered {
+        good: true,
+        design,
+        length: write_to(&mut bytes[0..n], word(line, 0), design, out),
+    }
+}
