@@ -8,7 +8,7 @@ use libc::STDIN_FILENO;
 use libc::STDOUT_FILENO;
 ghost use Prim.Native.Nat.{_≤_};
 ghost use lib.ListN.{length};
-ghost use Rattle.asking.specs.Lent.{Lent};
+ghost use Rattle.keeping.specs.Lent.{Lent};
 ghost use Rattle.ask.specs.Reading.{Inside};
 
 // A line's bytes, with its newline.

@@ -2,7 +2,6 @@
 use check::same;
 use rules::Edit;
 use rules::Need;
-use words::Number;
 use words::count;
 use words::number_in;
 use words::numbers_in;
@@ -20,10 +19,13 @@ fn turn_in(line: &[u8]) -> Asked {
     if !same(word(line, 1), b"turn") {
         return Asked::Bad;
     }
-    let Number::Value(position) = number_in(word(line, 2)) else {
+    let position = number_in(word(line, 2));
+    if !position.good {
         return Asked::Bad;
-    };
-    Asked::Edit(Edit::Turn { position })
+    }
+    Asked::Edit(Edit::Turn {
+        position: position.n,
+    })
 }
 
 // K CLBS RAMS MULTIPLIERS, the words after `need`.

@@ -1,7 +1,6 @@
 // The design that a line says after its first word: W H B KINDS M NEEDS TOKENS.
 use crate::MOST_NUMBERS;
 use crate::NEED_NUMBERS;
-use crate::no_design;
 use check::same;
 use rules::Chip;
 use rules::Columns;
@@ -11,11 +10,9 @@ use rules::MOST_MODULES;
 use rules::MOST_TOKENS;
 use rules::Need;
 use rules::Rows;
-use words::Number;
+use words::bytes_in;
 use words::number_in;
 use words::numbers_in;
-use words::put_bytes;
-use words::says_bytes;
 use words::word;
 use words::words;
 
@@ -69,10 +66,9 @@ fn needs_in(word: &[u8]) -> SaidNeeds {
 // W H B KINDS, the first of those words; places that are not given are zero.
 fn chip_in(line: &[u8]) -> SaidChip {
     let mut sizes = [0usize; 3];
-    let good = numbers_in(b' ', words(line, 1, 3), &mut sizes);
-    let said = word(line, 4);
     let mut kinds = [0u8; MOST_COLUMNS];
-    put_bytes(said, &mut kinds);
+    let numbers = numbers_in(b' ', words(line, 1, 3), &mut sizes);
+    let bytes = bytes_in(word(line, 4), &mut kinds);
     let chip = Chip {
         width: Columns(sizes[0]),
         height: Rows(sizes[1]),
@@ -80,16 +76,8 @@ fn chip_in(line: &[u8]) -> SaidChip {
         kinds,
     };
     SaidChip {
-        good: good && says_bytes(said, MOST_COLUMNS),
+        good: numbers && bytes.good,
         chip,
-    }
-}
-
-// No design.
-fn nothing_said() -> Said {
-    Said {
-        good: false,
-        design: no_design(),
     }
 }
 
@@ -97,19 +85,16 @@ fn nothing_said() -> Said {
 pub fn design_in(line: &[u8]) -> Said {
     let chip_said = chip_in(line);
     let chip = chip_said.chip;
-    let Number::Value(modules) = number_in(word(line, 5)) else {
-        return nothing_said();
-    };
+    let modules = number_in(word(line, 5));
     let needs_said = needs_in(word(line, 6));
     let needs = needs_said.needs;
-    let said = word(line, 7);
     let mut tokens = [0u8; MOST_TOKENS];
-    put_bytes(said, &mut tokens);
+    let bytes = bytes_in(word(line, 7), &mut tokens);
     Said {
-        good: chip_said.good && needs_said.good && says_bytes(said, MOST_TOKENS),
+        good: chip_said.good && modules.good && needs_said.good && bytes.good,
         design: Design {
             chip,
-            modules,
+            modules: modules.n,
             needs,
             tokens,
         },

@@ -1,7 +1,8 @@
 // Bytes in hexadecimal, two digits each, in lower case.
 use crate::numbers::Number;
 use check::same;
-ghost use Prim.Native.Nat.{_≤_};
+ghost use Prim.Native.Nat.{_*_, _≤_};
+ghost use lib.ListN.{length};
 
 // The base, and the value of what is no digit.
 const BASE: u8 = 16;
@@ -17,45 +18,46 @@ fn digit(b: u8) -> u8
     }
 }
 
-// How many bytes a word says, if it says bytes: two digits each, or `-` for none.
-pub fn bytes_in(word: &[u8]) -> Number {
+// How many bytes a word says by its length, if there are places for them: `-` is none.
+fn count_in(word: &[u8], places: usize) -> Number
+    ensures { λ r. ⌜ (r .n ≤ places) × (2 * r .n ≤ length (now (word .entry))) ⌝ }
+{
     if same(word, b"-") {
-        return Number::Value(0);
+        return Number { good: true, n: 0 };
     }
-    let n = word.len();
+    let bad = Number { good: false, n: 0 };
+    let n = word.len() / 2;
     if n == 0 {
-        return Number::Bad;
+        return bad;
     }
-    if n % 2 != 0 {
-        return Number::Bad;
+    if n > places {
+        return bad;
     }
-    for i in 0..n {
-        if digit(word[i]) == BASE {
-            return Number::Bad;
+    Number {
+        good: word.len() % 2 == 0,
+        n,
+    }
+}
+
+// Puts the bytes that a word says into places, and says how many, if it says bytes and they have one.
+pub fn bytes_in(word: &[u8], places: &mut [u8]) -> Number
+    ensures { λ r. ⌜ r .n ≤ length (now (places .entry)) ⌝ }
+{
+    let bad = Number { good: false, n: 0 };
+    let count = count_in(word, places.len());
+    if !count.good {
+        return bad;
+    }
+    for i in 0..count.n {
+        let high = digit(word[2 * i]);
+        let low = digit(word[2 * i + 1]);
+        if high == BASE {
+            return bad;
         }
-    }
-    Number::Value(n / 2)
-}
-
-// A word says bytes, and at most so many.
-pub fn says_bytes(word: &[u8], most: usize) -> bool {
-    let Number::Value(n) = bytes_in(word) else {
-        return false;
-    };
-    n <= most
-}
-
-// The byte of two digits; what is no digit counts as 0.
-fn byte_of(high: u8, low: u8) -> u8 {
-    BASE * (digit(high) % BASE) + digit(low) % BASE
-}
-
-// Puts the bytes that a word says into bytes that are lent, as many as both have.
-pub fn put_bytes(word: &[u8], out: &mut [u8]) {
-    for i in 0..out.len() {
-        if word.len() / 2 <= i {
-            return;
+        if low == BASE {
+            return bad;
         }
-        out[i] = byte_of(word[2 * i], word[2 * i + 1]);
+        places[i] = BASE * high + low;
     }
+    count
 }

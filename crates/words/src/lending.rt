@@ -1,76 +1,63 @@
-// What a line says after its first word, of bytes to lend and of bytes to put among them.
+// Bytes that are lent as a line's words say.
 use crate::bytes::bytes_in;
 use crate::numbers::Number;
 use crate::numbers::number_in;
 use crate::numbers::numbers_in;
 use crate::word;
 use crate::words;
-ghost use Prim.Native.Nat.{_+_, _≤_};
+ghost use Prim.Native.Nat.{_≤_};
+ghost use lib.ListN.{length};
+
+// More bytes than a line can say.
+pub const MOST_SAID: usize = 8192;
 
 const MOST_BYTE: usize = 255;
 
-// `N F`: n bytes to lend, all f, if a line says so.
-pub struct Lending {
-    pub good: bool,
-    pub n: usize,
-    pub fill: u8,
+// Makes all bytes the same.
+fn fill(bytes: &mut [u8], b: u8) {
+    for i in 0..bytes.len() {
+        bytes[i] = b;
+    }
 }
 
-// `A BYTES`: where to put bytes, and how many, if a line says so.
-pub struct Patch {
-    pub good: bool,
-    pub at: usize,
-    pub n: usize,
-}
-
-// The two words `N F` after a line's first, if there is room for so many bytes.
-pub fn lending_in(line: &[u8], room: usize) -> Lending
-    ensures { λ r. ⌜ r .n ≤ room ⌝ }
+// `N F` after a line's first word: makes the first n bytes all f, and says n, if there are so many; else they stay.
+pub fn lend(line: &[u8], room: &mut [u8]) -> Number
+    ensures { λ r. ⌜ r .n ≤ length (now (room .entry)) ⌝ }
 {
-    let bad = Lending {
-        good: false,
-        n: 0,
-        fill: 0,
-    };
+    let bad = Number { good: false, n: 0 };
     let mut said = [0usize; 2];
     if !numbers_in(b' ', words(line, 1, 2), &mut said) {
         return bad;
     }
     let n = said[0];
-    let fill = said[1];
-    if n > room {
+    let f = said[1];
+    if n > room.len() {
         return bad;
     }
-    if fill > MOST_BYTE {
+    if f > MOST_BYTE {
         return bad;
     }
-    Lending {
-        good: true,
-        n,
-        fill: fill as u8,
-    }
+    fill(&mut room[0..n], f as u8);
+    Number { good: true, n }
 }
 
-// The two words `A BYTES` after a line's first, if the bytes then stand inside `room` ones.
-pub fn patch_in(line: &[u8], room: usize) -> Patch
-    ensures { λ r. ⌜ r .at + r .n ≤ room ⌝ }
-{
-    let bad = Patch {
-        good: false,
-        at: 0,
-        n: 0,
-    };
-    let Number::Value(at) = number_in(word(line, 1)) else {
-        return bad;
-    };
-    let Number::Value(n) = bytes_in(word(line, 2)) else {
-        return bad;
-    };
-    if at > room {
-        return bad;
+// `A BYTES` after a line's first word: puts the bytes at A, and says whether there are so many; else they stay.
+pub fn poke(line: &[u8], lent: &mut [u8]) -> bool {
+    let from = number_in(word(line, 1));
+    let said = word(line, 2);
+    let mut bytes = [0u8; MOST_SAID];
+    let count = bytes_in(said, &mut bytes);
+    if !(from.good && count.good) {
+        return false;
     }
-    if n > room - at {
-        return bad;
+    let at = from.n;
+    let n = count.n;
+    if at > lent.len() {
+        return false;
     }
-    Patch { good: true, at, n }
+    if n > lent.len() - at {
+        return false;
+    }
+    bytes_in(said, &mut lent[at..at + n]);
+    true
 }

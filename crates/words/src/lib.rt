@@ -1,16 +1,13 @@
-// A line's words, which stand between its spaces, and what words say: numbers, bytes, and how many bytes to lend.
+// A line's words, which stand between its spaces, and what words say: numbers, bytes, and bytes to lend.
 mod bytes;
 mod lending;
 mod numbers;
 
 pub use bytes::bytes_in;
-pub use bytes::put_bytes;
-pub use bytes::says_bytes;
 use check::same;
-pub use lending::Lending;
-pub use lending::Patch;
-pub use lending::lending_in;
-pub use lending::patch_in;
+pub use lending::MOST_SAID;
+pub use lending::lend;
+pub use lending::poke;
 pub use numbers::Number;
 pub use numbers::number_in;
 pub use numbers::numbers_in;

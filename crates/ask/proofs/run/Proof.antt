@@ -5,7 +5,7 @@ use Prim.Native.Nat.{_-_, _≤_}
 use native.Mathlib.Omega.{arith}
 use lib.ListN.{length}
 use borrow.Author.Needs.{needs}
-use Rattle.asking.specs.Lent.{Lent}
+use Rattle.keeping.specs.Lent.{Lent}
 use Rattle.ask.specs.Reading.{Inside}
 use Rattle.ask.proofs.run.Statement.{statement}
 use Rattle.ask.proofs.run.Tie as tie

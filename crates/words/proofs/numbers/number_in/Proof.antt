@@ -13,10 +13,10 @@ room : (i : ℕ) → i < 18 → 10 * 10 ^ i ≤ 10 ^ 18
 room i h = rw (← pow-succ') (pow-le-pow-right (omega arith) {j = 18} (omega arith))
 
 abbrev Inv-loop : tie.InvT-loop
-Inv-loop word n value₀ i₀ value i = (i ≤ n) × (value < 10 ^ i)
+Inv-loop word bad digits n₀ i₀ n i = (i ≤ digits) × (n < 10 ^ i)
 
 abbrev μ-loop : tie.MeasureT-loop
-μ-loop word n value₀ i₀ value i = n - i
+μ-loop word bad digits n₀ i₀ n i = digits - i
 
 returns : tie.Need-returns Inv-loop μ-loop
 returns c = search needs
@@ -36,14 +36,14 @@ returns-3 c = search needs
 returns-4 : tie.Need-returns-4 Inv-loop μ-loop
 returns-4 c = search needs
 
-mul-value : tie.Need-mul-value Inv-loop μ-loop
-mul-value c = let now = c .before .before .before .before .loop in omega (arith, room (now .i) (omega arith))
+mul-n : tie.Need-mul-n Inv-loop μ-loop
+mul-n c = let now = c .before .before .before .before .loop in omega (arith, room (now .i) (omega arith))
 
-cast-value : tie.Need-cast-value Inv-loop μ-loop
-cast-value c = search needs
+cast-n : tie.Need-cast-n Inv-loop μ-loop
+cast-n c = search needs
 
-add-value : tie.Need-add-value Inv-loop μ-loop
-add-value c = let now = c .before .before .before .before .loop in omega (arith, room (now .i) (omega arith))
+add-n : tie.Need-add-n Inv-loop μ-loop
+add-n c = let now = c .before .before .before .before .loop in omega (arith, room (now .i) (omega arith))
 
 add-i : tie.Need-add-i Inv-loop μ-loop
 add-i c = search needs
@@ -69,9 +69,9 @@ number-in-spec =
     shared-slice-read-b
     returns-3
     returns-4
-    mul-value
-    cast-value
-    add-value
+    mul-n
+    cast-n
+    add-n
     add-i
     loop-less
     loop-again

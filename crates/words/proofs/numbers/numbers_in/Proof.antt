@@ -30,12 +30,6 @@ part-number-in-end c = search needs
 number-in-requires : tie.Need-number-in-requires Inv-loop μ-loop
 number-in-requires c κs = search needs
 
-enum-known-n : tie.Need-enum-known-n Inv-loop μ-loop
-enum-known-n c = search needs
-
-enum-told : tie.Need-enum-told Inv-loop μ-loop
-enum-told c = search needs
-
 same-length : tie.Need-same-length Inv-loop μ-loop
 same-length c = search needs
 
@@ -84,8 +78,6 @@ numbers-in-spec =
     part-number-in-start
     part-number-in-end
     number-in-requires
-    enum-known-n
-    enum-told
     same-length
     returns
     mul-places

@@ -3,7 +3,7 @@ use mathlib.Core.Path.{_≡_}
 use mathlib.Core.List.{List}
 use Prim.Native.Nat.{ℕ, _≤_}
 use lib.ListN.{length}
-use Rattle.asking.specs.declared.Held.{Held}
+use Rattle.keeping.specs.declared.Held.{Held}
 
 -- the work and the rows that are lent are parts of what there is of each
 pub record Lent (held : Held) (work rows : List ℕ) : Type 0 where

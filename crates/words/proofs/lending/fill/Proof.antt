@@ -3,8 +3,8 @@ use mathlib.Core.Path.{_≡_}
 use Prim.Native.Nat.{_-_, _≤_}
 use lib.ListN.{length}
 use borrow.Author.Needs.{needs}
-use Rattle.asking.proofs.lending.fill.Statement.{statement}
-use Rattle.asking.proofs.lending.fill.Tie as tie
+use Rattle.words.proofs.lending.fill.Statement.{statement}
+use Rattle.words.proofs.lending.fill.Tie as tie
 
 abbrev Inv-loop : tie.InvT-loop
 Inv-loop bytes₀ b i₀ i-end bytes i = (i ≤ i-end) × (i-end ≡ length bytes₀) × (length bytes ≡ length bytes₀)

@@ -1,4 +1,4 @@
-// What a line asks: to hold or to lend something, or else a service.
+// What a line asks to be held or lent.
 use words::count;
 use words::place_among;
 use words::word;
@@ -10,7 +10,7 @@ pub enum Request {
     Poke,
     Rows,
     Row,
-    Service,
+    Other,
 }
 
 // The request of this name.
@@ -21,7 +21,7 @@ fn named(name: &[u8]) -> Request {
         2 => Request::Poke,
         3 => Request::Rows,
         4 => Request::Row,
-        _ => Request::Service,
+        _ => Request::Other,
     }
 }
 
@@ -30,12 +30,12 @@ fn takes(request: Request, words: usize) -> bool {
     match request {
         Request::Nothing => true,
         Request::Design => words == 8,
-        Request::Service => true,
+        Request::Other => true,
         _ => words == 3,
     }
 }
 
-// The request that a line makes; one with too few or too many words is left to the services, none of which has its name.
+// The request that a line makes; what has too few or too many words is another, and nothing else has its name.
 pub fn request_in(line: &[u8]) -> Request {
     if line.len() == 0 {
         return Request::Nothing;
@@ -47,5 +47,5 @@ pub fn request_in(line: &[u8]) -> Request {
     if takes(request, count(line)) {
         return request;
     }
-    Request::Service
+    Request::Other
 }

@@ -154,11 +154,15 @@ fn put_first(out: &mut [u8], at: usize, numbers: [usize; MOST_NUMBERS], n: usize
     put_numbers(out, at, b' ', &numbers[0..n])
 }
 
-// Puts an answer as a line: the service's name, the numbers, and what is shown of the design, the bytes and the work.
+// Puts an answer as a line: the service's name, the numbers, and what is shown of the design, the bytes and the work. A line
+// that is no request has none.
 pub fn put_answer(out: &mut [u8], name: &[u8], answer: Answer, bytes: &[u8], work: &[u8]) -> usize
     requires { ⌜ answer .count ≤ 3 ⌝ }
     ensures { λ r. ⌜ r ≤ length (now (out .exit)) ⌝ }
 {
+    if !answer.good {
+        return 0;
+    }
     let numbers = answer.numbers;
     let shown = answer.shown;
     let design = answer.design;

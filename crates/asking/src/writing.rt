@@ -1,10 +1,9 @@
 // `write N F`: writes the held design into n bytes f, which are then shown: write NUMBER COUNT BYTES
-use crate::Answered;
 use crate::answers::put_answer;
 use crate::answers::written;
-use crate::unanswered;
+use crate::services::Answered;
 use rules::Design;
-use words::lending_in;
+use words::lend;
 use words::word;
 ghost use Prim.Native.Nat.{_≤_};
 ghost use lib.ListN.{length};
@@ -23,13 +22,16 @@ fn write_to(bytes: &mut [u8], name: &[u8], design: Design, out: &mut [u8]) -> us
 pub fn write(line: &[u8], design: Design, out: &mut [u8]) -> Answered
     ensures { λ r. ⌜ r .length ≤ length (now (out .exit)) ⌝ }
 {
-    let lending = lending_in(line, MOST_WRITTEN);
-    if !lending.good {
-        return unanswered(design);
+    let mut bytes = [0u8; MOST_WRITTEN];
+    let lent = lend(line, &mut bytes);
+    if !lent.good {
+        return Answered {
+            good: false,
+            design,
+            length: 0,
+        };
     }
-    let n = lending.n;
-    let fill = lending.fill;
-    let mut bytes = [fill; MOST_WRITTEN];
+    let n = lent.n;
     Answered {
         good: true,
         design,

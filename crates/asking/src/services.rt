@@ -1,30 +1,22 @@
 // The services as a line asks them: which one, what the line says to it, and its answer as text in lent bytes.
-mod answers;
-mod names;
-mod writing;
-
-use answers::Answer;
-use answers::Shown;
-use answers::handed_back;
-use answers::no_answer;
-use answers::planned;
-use answers::put_answer;
-use answers::replied;
-use names::Service;
-use names::service_in;
+use crate::answers::Answer;
+use crate::answers::Shown;
+use crate::answers::handed_back;
+use crate::answers::no_answer;
+use crate::answers::planned;
+use crate::answers::put_answer;
+use crate::answers::replied;
+use crate::names::Service;
+use crate::names::service_in;
+use crate::writing::write;
 use rules::Design;
 use spelling::Asked;
 use spelling::edit_in;
-use words::Number;
+use words::MOST_SAID;
 use words::bytes_in;
-use words::put_bytes;
 use words::word;
-ghost use mathlib.Core.Path.{_≡_};
 ghost use Prim.Native.Nat.{_≤_};
 ghost use lib.ListN.{length};
-
-// More bytes than a line's `read` can have.
-const MOST_READ: usize = 8192;
 
 // What a line comes to: whether it asks a service, the design that is then held, and the length of the answer.
 pub struct Answered {
@@ -33,30 +25,16 @@ pub struct Answered {
     pub length: usize,
 }
 
-// A line that asks no service.
-fn unanswered(design: Design) -> Answered
-    ensures { λ r. ⌜ r .length ≡ 0 ⌝ }
-{
-    Answered {
-        good: false,
-        design,
-        length: 0,
-    }
-}
-
 // `read BYTES`: reads a design, which is then held: read NUMBER POSITION DESIGN
 fn read(line: &[u8], design: Design) -> Answer
     ensures { λ r. ⌜ r .count ≤ 3 ⌝ }
 {
-    let said = word(line, 1);
-    let Number::Value(n) = bytes_in(said) else {
-        return no_answer(design);
-    };
-    if n > MOST_READ {
+    let mut bytes = [0u8; MOST_SAID];
+    let said = bytes_in(word(line, 1), &mut bytes);
+    if !said.good {
         return no_answer(design);
     }
-    let mut bytes = [0u8; MOST_READ];
-    put_bytes(said, &mut bytes);
+    let n = said.n;
     handed_back(cellweaver::read(&bytes[0..n]), 2, Shown::Design)
 }
 
@@ -90,8 +68,8 @@ fn ask(service: Service, line: &[u8], design: Design, work: &mut [u8], rows: &mu
     }
 }
 
-// Serves a line that asks a service, over the design that is held and the bytes that are lent, and puts its answer into `out`.
-pub fn serve(
+// Asks the service that a line names, over the design that is held and the bytes that are lent, and puts its answer into `out`.
+pub fn answer(
     line: &[u8],
     design: Design,
     work: &mut [u8],
@@ -102,15 +80,12 @@ pub fn serve(
 {
     let service = service_in(line);
     if let Service::Write = service {
-        return writing::write(line, design, out);
+        return write(line, design, out);
     }
     let answer = ask(service, line, design, work, rows);
     let design = answer.design;
-    if !answer.good {
-        return unanswered(design);
-    }
     Answered {
-        good: true,
+        good: answer.good,
         design,
         length: put_answer(out, word(line, 0), answer, rows, work),
     }
