@@ -10,6 +10,7 @@ use spelling::put_design;
 use telling::put_byte;
 use telling::put_hash;
 use telling::put_hex;
+use telling::put_number;
 use telling::put_numbers;
 use telling::put_word;
 ghost use Prim.Native.Nat.{_≤_};
@@ -154,15 +155,20 @@ fn put_first(out: &mut [u8], at: usize, numbers: [usize; MOST_NUMBERS], n: usize
     put_numbers(out, at, b' ', &numbers[0..n])
 }
 
-// Puts an answer as a line: the service's name, the numbers, and what is shown of the design, the bytes and the work. A line
-// that is no request has none.
+// The answer to a bad line: bad N
+pub fn put_bad(number: usize, out: &mut [u8]) -> usize
+    ensures { λ r. ⌜ r ≤ length (now (out .exit)) ⌝ }
+{
+    let at = put_word(out, 0, b"bad");
+    let at = put_number(out, at, b' ', number);
+    put_byte(out, at, b'\n')
+}
+
+// Puts an answer as a line: the service's name, the numbers, and what is shown of the design, the bytes and the work.
 pub fn put_answer(out: &mut [u8], name: &[u8], answer: Answer, bytes: &[u8], work: &[u8]) -> usize
     requires { ⌜ answer .count ≤ 3 ⌝ }
     ensures { λ r. ⌜ r ≤ length (now (out .exit)) ⌝ }
 {
-    if !answer.good {
-        return 0;
-    }
     let numbers = answer.numbers;
     let shown = answer.shown;
     let design = answer.design;

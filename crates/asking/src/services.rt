@@ -5,6 +5,7 @@ use crate::answers::handed_back;
 use crate::answers::no_answer;
 use crate::answers::planned;
 use crate::answers::put_answer;
+use crate::answers::put_bad;
 use crate::answers::replied;
 use crate::names::Service;
 use crate::names::service_in;
@@ -18,9 +19,8 @@ use words::word;
 ghost use Prim.Native.Nat.{_≤_};
 ghost use lib.ListN.{length};
 
-// What a line comes to: whether it asks a service, the design that is then held, and the length of the answer.
+// The design that is held after a line, and the length of its answer.
 pub struct Answered {
-    pub good: bool,
     pub design: Design,
     pub length: usize,
 }
@@ -68,9 +68,11 @@ fn ask(service: Service, line: &[u8], design: Design, work: &mut [u8], rows: &mu
     }
 }
 
-// Asks the service that a line names, over the design that is held and the bytes that are lent, and puts its answer into `out`.
+// Asks the service that a line names, over the design that is held and the bytes that are lent, and puts its answer into `out`;
+// a line that names none is bad.
 pub fn answer(
     line: &[u8],
+    number: usize,
     design: Design,
     work: &mut [u8],
     rows: &mut [u8],
@@ -80,13 +82,15 @@ pub fn answer(
 {
     let service = service_in(line);
     if let Service::Write = service {
-        return write(line, design, out);
+        let length = write(line, number, design, out);
+        return Answered { design, length };
     }
     let answer = ask(service, line, design, work, rows);
     let design = answer.design;
-    Answered {
-        good: answer.good,
-        design,
-        length: put_answer(out, word(line, 0), answer, rows, work),
+    if answer.good {
+        let length = put_answer(out, word(line, 0), answer, rows, work);
+        return Answered { design, length };
     }
+    let length = put_bad(number, out);
+    Answered { design, length }
 }

@@ -1,7 +1,7 @@
 // `write N F`: writes the held design into n bytes f, which are then shown: write NUMBER COUNT BYTES
 use crate::answers::put_answer;
+use crate::answers::put_bad;
 use crate::answers::written;
-use crate::services::Answered;
 use rules::Design;
 use words::lend;
 use words::word;
@@ -19,22 +19,14 @@ fn write_to(bytes: &mut [u8], name: &[u8], design: Design, out: &mut [u8]) -> us
     put_answer(out, name, answer, bytes, b"")
 }
 
-pub fn write(line: &[u8], design: Design, out: &mut [u8]) -> Answered
-    ensures { λ r. ⌜ r .length ≤ length (now (out .exit)) ⌝ }
+pub fn write(line: &[u8], number: usize, design: Design, out: &mut [u8]) -> usize
+    ensures { λ r. ⌜ r ≤ length (now (out .exit)) ⌝ }
 {
     let mut bytes = [0u8; MOST_WRITTEN];
     let lent = lend(line, &mut bytes);
     if !lent.good {
-        return Answered {
-            good: false,
-            design,
-            length: 0,
-        };
+        return put_bad(number, out);
     }
     let n = lent.n;
-    Answered {
-        good: true,
-        design,
-        length: write_to(&mut bytes[0..n], word(line, 0), design, out),
-    }
+    write_to(&mut bytes[0..n], word(line, 0), design, out)
 }

@@ -1,7 +1,5 @@
 // What a line asks to be held or lent.
-use words::count;
-use words::place_among;
-use words::word;
+use words::request_among;
 
 pub enum Request {
     Nothing,
@@ -13,29 +11,7 @@ pub enum Request {
     Other,
 }
 
-// The request of this name.
-fn named(name: &[u8]) -> Request {
-    match place_among(b"design work poke rows row", name) {
-        0 => Request::Design,
-        1 => Request::Work,
-        2 => Request::Poke,
-        3 => Request::Rows,
-        4 => Request::Row,
-        _ => Request::Other,
-    }
-}
-
-// A line of so many words can make this request.
-fn takes(request: Request, words: usize) -> bool {
-    match request {
-        Request::Nothing => true,
-        Request::Design => words == 8,
-        Request::Other => true,
-        _ => words == 3,
-    }
-}
-
-// The request that a line makes; what has too few or too many words is another, and nothing else has its name.
+// The request that a line makes.
 pub fn request_in(line: &[u8]) -> Request {
     if line.len() == 0 {
         return Request::Nothing;
@@ -43,9 +19,12 @@ pub fn request_in(line: &[u8]) -> Request {
     if line[0] == b'#' {
         return Request::Nothing;
     }
-    let request = named(word(line, 0));
-    if takes(request, count(line)) {
-        return request;
+    match request_among(b"8design 3work 3poke 3rows 3row", line) {
+        0 => Request::Design,
+        1 => Request::Work,
+        2 => Request::Poke,
+        3 => Request::Rows,
+        4 => Request::Row,
+        _ => Request::Other,
     }
-    Request::Other
 }

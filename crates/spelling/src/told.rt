@@ -1,6 +1,7 @@
 // A design put into lent bytes, as telling puts its parts: W H B KINDS M NEEDS TOKENS, without the zeros at the end of each.
 use crate::MOST_NUMBERS;
 use crate::NEED_NUMBERS;
+use rules::Chip;
 use rules::Design;
 use rules::MOST_MODULES;
 use rules::Need;
@@ -75,38 +76,27 @@ fn numbers_of(needs: [Need; MOST_MODULES]) -> [usize; MOST_NUMBERS] {
 }
 
 // Puts a design's chip: W H B KINDS
-fn put_chip(out: &mut [u8], at: usize, design: Design) -> usize
+fn put_chip(out: &mut [u8], at: usize, chip: Chip) -> usize
     requires { ⌜ at ≤ length (now out) ⌝ }
     ensures { λ r. ⌜ r ≤ length (now (out .exit)) ⌝ }
 {
-    let sizes = [
-        design.chip.width.0,
-        design.chip.height.0,
-        design.chip.block.0,
-    ];
+    let sizes = [chip.width.0, chip.height.0, chip.block.0];
+    let kinds = chip.kinds;
     let next = put_numbers(out, at, b' ', &sizes);
-    let kinds = design.chip.kinds;
     put_row(out, next, &kinds)
 }
 
-// Puts a design's modules: M NEEDS TOKENS
-fn put_modules(out: &mut [u8], at: usize, design: Design) -> usize
-    requires { ⌜ at ≤ length (now out) ⌝ }
-    ensures { λ r. ⌜ r ≤ length (now (out .exit)) ⌝ }
-{
-    let next = put_number(out, at, b' ', design.modules);
-    let needs = design.needs;
-    let numbers = numbers_of(needs);
-    let next = put_list(out, next, &numbers);
-    let tokens = design.tokens;
-    put_row(out, next, &tokens)
-}
-
-// Puts a design.
+// Puts a design: its chip, then M NEEDS TOKENS
 pub fn put_design(out: &mut [u8], at: usize, design: Design) -> usize
     requires { ⌜ at ≤ length (now out) ⌝ }
     ensures { λ r. ⌜ r ≤ length (now (out .exit)) ⌝ }
 {
-    let next = put_chip(out, at, design);
-    put_modules(out, next, design)
+    let chip = design.chip;
+    let needs = design.needs;
+    let tokens = design.tokens;
+    let next = put_chip(out, at, chip);
+    let next = put_number(out, next, b' ', design.modules);
+    let numbers = numbers_of(needs);
+    let next = put_list(out, next, &numbers);
+    put_row(out, next, &tokens)
 }

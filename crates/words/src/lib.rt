@@ -70,11 +70,20 @@ pub fn word(line: &[u8], k: usize) -> &[u8] {
     words(line, k, k)
 }
 
-// Which of the names it is, counted from 0; as many as there are if it is none of them.
-pub fn place_among(names: &[u8], name: &[u8]) -> usize {
-    let n = count(names);
+// A line of so many words makes this request: the number of its words, a digit, and the first of them.
+fn makes(line: &[u8], words: usize, request: &[u8]) -> bool {
+    if request.len() == 0 {
+        return false;
+    }
+    number_in(&request[0..1]).n == words && same(&request[1..], word(line, 0))
+}
+
+// Which of these requests a line makes, counted from 0; as many as there are if it makes none of them.
+pub fn request_among(requests: &[u8], line: &[u8]) -> usize {
+    let n = count(requests);
+    let words = count(line);
     for k in 0..n {
-        if same(word(names, k), name) {
+        if makes(line, words, word(requests, k)) {
             return k;
         }
     }

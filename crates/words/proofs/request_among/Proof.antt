@@ -1,17 +1,20 @@
--- Each turn looks at one name. The measure is how many are left. Assumes nothing.
+-- Each turn looks at one request. The measure is how many are left. Assumes nothing.
 use Prim.Native.Nat.{_-_, _≤_}
 use borrow.Author.Needs.{needs}
-use Rattle.words.proofs.place_among.Statement.{statement}
-use Rattle.words.proofs.place_among.Tie as tie
+use Rattle.words.proofs.request_among.Statement.{statement}
+use Rattle.words.proofs.request_among.Tie as tie
 
 abbrev Inv-loop : tie.InvT-loop
-Inv-loop names name n k₀ k = k ≤ n
+Inv-loop requests line n words k₀ k = k ≤ n
 
 abbrev μ-loop : tie.MeasureT-loop
-μ-loop names name n k₀ k = n - k
+μ-loop requests line n words k₀ k = n - k
 
 count-requires : tie.Need-count-requires Inv-loop μ-loop
 count-requires c κs = search needs
+
+count-requires-2 : tie.Need-count-requires-2 Inv-loop μ-loop
+count-requires-2 c κs = search needs
 
 loop-holds : tie.Need-loop-holds Inv-loop μ-loop
 loop-holds c = search needs
@@ -19,8 +22,8 @@ loop-holds c = search needs
 word-requires : tie.Need-word-requires Inv-loop μ-loop
 word-requires c κs = search needs
 
-same-requires : tie.Need-same-requires Inv-loop μ-loop
-same-requires c κs = search needs
+makes-requires : tie.Need-makes-requires Inv-loop μ-loop
+makes-requires c κs = search needs
 
 returns : tie.Need-returns Inv-loop μ-loop
 returns c = search needs
@@ -37,16 +40,17 @@ loop-again c = search needs
 returns-2 : tie.Need-returns-2 Inv-loop μ-loop
 returns-2 c = search needs
 
-pub place-among-spec : {M : Type 1} → statement M
-place-among-spec =
+pub request-among-spec : {M : Type 1} → statement M
+request-among-spec =
     tie.close
     (tie.spec
     Inv-loop
     μ-loop
     count-requires
+    count-requires-2
     loop-holds
     word-requires
-    same-requires
+    makes-requires
     returns
     add-k
     loop-less
