@@ -41,23 +41,21 @@ pub fn lend(line: &[u8], room: &mut [u8]) -> Number
     Number { good: true, n }
 }
 
-// `A BYTES` after a line's first word: puts the bytes at A, and says whether there are so many; else they stay.
+// `A BYTES` after a line's first word: puts the bytes at A, and says whether there are so many; else they stay, so the word is
+// tried elsewhere first.
 pub fn poke(line: &[u8], lent: &mut [u8]) -> bool {
     let from = number_in(word(line, 1));
-    let said = word(line, 2);
-    let mut bytes = [0u8; MOST_SAID];
-    let count = bytes_in(said, &mut bytes);
-    if !(from.good && count.good) {
+    let at = from.n;
+    if !from.good {
         return false;
     }
-    let at = from.n;
-    let n = count.n;
     if at > lent.len() {
         return false;
     }
-    if n > lent.len() - at {
+    let said = word(line, 2);
+    let mut tried = [0u8; MOST_SAID];
+    if !bytes_in(said, &mut tried).good {
         return false;
     }
-    bytes_in(said, &mut lent[at..at + n]);
-    true
+    bytes_in(said, &mut lent[at..]).good
 }
