@@ -100,14 +100,14 @@ fn lend_rows(line: &[u8], held: Held, rows: &mut [u8]) -> Kept
     taken(true, held)
 }
 
-// What a request comes to.
-fn kept_as(request: Request, line: &[u8], held: Held, work: &mut [u8], rows: &mut [u8]) -> Kept
+// Takes a line, if it asks to hold or to lend something.
+pub fn keep(line: &[u8], held: Held, work: &mut [u8], rows: &mut [u8]) -> Kept
     requires { ⌜ Lent held (now work) (now rows) ⌝ }
     ensures { λ r. ⌜ Lent (r .held) (now (work .entry)) (now (rows .entry)) ⌝ }
 {
     let w = held.work;
     let r = held.rows;
-    match request {
+    match request_in(line) {
         Request::Nothing => taken(true, held),
         Request::Design => hold(line, held),
         Request::Work => lend_work(line, held, work),
@@ -120,12 +120,4 @@ fn kept_as(request: Request, line: &[u8], held: Held, work: &mut [u8], rows: &mu
             held,
         },
     }
-}
-
-// Takes a line, if it asks to hold or to lend something.
-pub fn keep(line: &[u8], held: Held, work: &mut [u8], rows: &mut [u8]) -> Kept
-    requires { ⌜ Lent held (now work) (now rows) ⌝ }
-    ensures { λ r. ⌜ Lent (r .held) (now (work .entry)) (now (rows .entry)) ⌝ }
-{
-    kept_as(request_in(line), line, held, work, rows)
 }
