@@ -16,7 +16,7 @@ ghost use Prim.Native.Nat.{_*_, _≤_, _<_};
 ghost use lib.Dec.{leb};
 ghost use Rattle.rules.specs.Search.{all};
 ghost use Rattle.rules.specs.Chip.{kindAt};
-ghost use Rattle.rules.specs.Design.{mostColumns, lastKind, mostModules, needAt, nodes, standingOf, inRange, lawfulNeed, withinLimits, treeTest, lawfulChip};
+ghost use Rattle.rules.specs.Design.{mostTokens, mostColumns, lastKind, mostModules, needAt, nodes, standingOf, inRange, lawfulNeed, withinLimits, treeTest, lawfulChip};
 ghost use Rattle.lawful.specs.Tested.{Tested};
 ghost use Rattle.lawful.specs.Stack.{emptyStack, afterCut, afterModule, afterToken};
 
@@ -145,7 +145,7 @@ fn after_cut(stack: Stack) -> Step
 
 // A module stands, if it is one of m and does not stand yet.
 fn after_module(m: usize, k: usize, stack: Stack) -> Step
-    requires { ⌜ (m ≤ mostModules) × (stack .count < 2 * mostModules) ⌝ }
+    requires { ⌜ (m ≤ mostModules) × (stack .count ≤ mostTokens) ⌝ }
     ensures { λ r. ⌜ r ≡ afterModule m k stack ⌝ }
 {
     if m <= k {
@@ -167,7 +167,7 @@ fn after_module(m: usize, k: usize, stack: Stack) -> Step
 
 // What a token does to the stack, of m modules. No more tokens were read than a design has, so the count can grow.
 pub fn after_token(m: usize, token: Token, stack: Stack) -> Step
-    requires { ⌜ (m ≤ mostModules) × (stack .count < 2 * mostModules) ⌝ }
+    requires { ⌜ (m ≤ mostModules) × (stack .count ≤ mostTokens) ⌝ }
     ensures { λ r. ⌜ r ≡ afterToken m token stack ⌝ }
 {
     match token {
