@@ -1,4 +1,4 @@
--- 01, "Design bytes", with what it says of reading under "Numbered replies".
+-- Design bytes and their reading: rules 18, 19 and 21 of docs/RULES.md.
 use mathlib.Core.Bool.{Bool, true, false}
 use mathlib.Core.List.{List, [], _∷_, _++_}
 use Prim.Native.Nat.{ℕ, zero, suc, _+_, _-_, _*_, _/_, _%_, _<_}
@@ -17,7 +17,7 @@ use Rattle.rules.specs.Design.{mostColumns, mostRows, lawfulKind, mostMo
 abbrev pub AreBytes : List ℕ → Type 0
 AreBytes s = (i : ℕ) → getD s i 0 < 256
 
--- "Every number is written in groups of seven bits, low group first, the top bit set on every byte but the last. Only the
+-- Rule 18: "Every number is written in groups of seven bits, low group first, the top bit set on every byte but the last. Only the
 -- shortest form is valid, at most three bytes, value at most 65,535."
 unfoldable pub numberBytes : ℕ → List ℕ
 numberBytes n =
@@ -67,7 +67,7 @@ numberAt s at =
       | false ↦ secondByte s at (getD s at 0 - 128)
     ])
 
--- "Order: form number 1, W, H, B, W kinds, m, three needs for each module, 2m-1 tokens."
+-- Rule 19: "Order: form number 1, W, H, B, W kinds, m, three needs for each module, 2m-1 tokens."
 unfoldable pub needBytes : Need → List ℕ
 needBytes n = numberBytes (n .clbs) ++ (numberBytes (n .rams) ++ numberBytes (n .multipliers))
 
@@ -95,7 +95,7 @@ unfoldable pub rowAt : {A : Type 0} → (ℕ → Took A) → ℕ → ℕ → Too
 rowAt f zero at = took [] at
 rowAt f (suc n) at = andThen (f at) λ a next. andThen (rowAt f n next) λ rest end. took (a ∷ rest) end
 
--- "an all-zero need: its first number", judged when the third is read
+-- Rule 21: "an all-zero need: its first number", judged when the third is read
 unfoldable pub needOf : List ℕ → ℕ → Took Need
 needOf s at =
     andThen (numberAt s at) λ a second.
@@ -121,7 +121,7 @@ tokensAt s m t (suc n) ts at =
     keptToken at (after m t (tokenOf mostModules k) ts) λ now.
     andThen (tokensAt s m (suc t) n now next) λ ks end. took (k ∷ ks) end
 
--- places that 01 ignores: "reading sets them to zero"
+-- Rule 22, places that are ignored: "reading sets them to zero"
 unfoldable pub padded : {A : Type 0} → ℕ → A → List A → List A
 padded size zeros xs = xs ++ replicate (size - length xs) zeros
 
@@ -141,7 +141,7 @@ designFrom chip m needs tokens = record {
   tokens = padded mostTokens 0 tokens;
 }
 
--- "Numbers are judged as they are read: 1 or 2 first, then 3, 4 or 5, then 6, then 7." 7: "bytes after the last token", at the
+-- Rule 21: "Numbers are judged as they are read: 1 or 2 first, then 3, 4 or 5, then 6, then 7." 7: "bytes after the last token", at the
 -- first extra byte.
 unfoldable pub designAt : List ℕ → Took Design
 designAt s =

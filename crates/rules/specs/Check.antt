@@ -1,4 +1,4 @@
--- The checker's verdict: 01, "Numbered replies", 12 to 14.
+-- The checker's verdict, replies 12 to 14: rules 23 and 25 of docs/RULES.md.
 use mathlib.Core.Bool.{Bool, true, false, not, _&&_, _||_}
 use mathlib.Core.List.{List}
 use Prim.Native.Nat.{ℕ, _+_, _*_, _<_}

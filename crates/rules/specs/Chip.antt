@@ -1,4 +1,4 @@
--- 01, "Chip, rectangles, needs".
+-- Chip, rectangles, needs: rules 1 to 4 of docs/RULES.md.
 use mathlib.Core.Path.{_≡_}
 use mathlib.Core.Bool.{Bool, _&&_}
 use Prim.Native.Nat.{ℕ, zero, suc, _+_, _*_, _/_, _≤_, _<_}
@@ -11,7 +11,7 @@ use Rattle.rules.specs.declared.Rectangle.{Rectangle}
 use Rattle.rules.specs.declared.Need.{Need}
 use Rattle.rules.specs.Search.{count, total}
 
--- "Columns are counted 0 to W-1 from the left, rows 0 to H-1 from below." "Each column has a kind: 0 CLB, 1 RAM, 2 multiplier."
+-- Rules 1, 2: "Columns are counted 0 to W-1 from the left, rows 0 to H-1 from below." "Each column has a kind: 0 CLB, 1 RAM, 2 multiplier."
 abbrev pub kindAt : Chip → ℕ → ℕ
 kindAt C x = getD (C .kinds) x 0
 
@@ -22,7 +22,7 @@ pub record Column : Type 0 where
   pub high : ℕ
   pub many : ℕ
 
--- "A CLB column holds one CLB in each row. Blocks in kinds 1 and 2 are B rows high, start at row 0 and follow without gaps;
+-- Rule 2: "A CLB column holds one CLB in each row. Blocks in kinds 1 and 2 are B rows high, start at row 0 and follow without gaps;
 -- rows above the last whole block hold nothing." Where a column's blocks start and how many there are is said here alone.
 unfoldable pub columnOf : Chip → ℕ → Column
 columnOf C zero = record { kind = 0; first = 0; high = 1; many = C .height .0 }
@@ -55,14 +55,14 @@ bottom r = r .corner .y .0
 abbrev pub top : Rectangle → ℕ
 top r = r .corner .y .0 + r .shape .h .0
 
--- "A rectangle is (x, y, w, h), w and h at least 1, x+w at most W, y+h at most H."
+-- Rule 3: "A rectangle is (x, y, w, h), w and h at least 1, x+w at most W, y+h at most H."
 pub record OnChip (W H : ℕ) (r : Rectangle) : Type 0 where
   pub wide : 1 ≤ r .shape .w .0
   pub high : 1 ≤ r .shape .h .0
   pub columns : right r ≤ W
   pub rows : top r ≤ H
 
--- "It holds a block only if it covers all the block's rows": block j of the column stands whole between two rows.
+-- Rule 3: "It holds a block only if it covers all the block's rows": block j of the column stands whole between two rows.
 unfoldable pub coversBlock : Column → ℕ → ℕ → ℕ → Bool
 coversBlock c low far j = leb low (c .first + j * c .high) && leb (c .first + suc j * c .high) far
 
@@ -86,11 +86,11 @@ pub record AtMost (n m : Need) : Type 0 where
   pub rams : n .rams ≤ m .rams
   pub multipliers : n .multipliers ≤ m .multipliers
 
--- "A rectangle suits it if it holds at least that many of each."
+-- Rule 4: "A rectangle suits it if it holds at least that many of each."
 abbrev pub Suits : Chip → Need → Rectangle → Type 0
 Suits C n r = AtMost n (holds C r)
 
--- "Places beyond W .. are ignored, also when two designs are called the same."
+-- Rule 22: "Places beyond W .. are ignored, also when two designs are called the same."
 pub record SameChip (C D : Chip) : Type 0 where
   pub width : C .width ≡ D .width
   pub height : C .height ≡ D .height

@@ -1,4 +1,4 @@
--- 01, "Choosing one floorplan".
+-- Choosing one floorplan: rules 13 to 15 of docs/RULES.md.
 use mathlib.Core.Path.{_≡_}
 use mathlib.Core.List.{List, [], _∷_, _++_}
 use Prim.Native.Nat.{ℕ, zero, suc, _+_, _≤_, max}
@@ -12,13 +12,13 @@ use Rattle.rules.specs.Tree.{Tree, leaf, cut, position}
 use Rattle.rules.specs.Placement.{Placement, area}
 use Rattle.rules.specs.Slot.{Stores, CornerOn}
 
--- "take the shape of least area w·h; of equals the narrowest"
+-- Rule 13: "take the shape of least area w·h; of equals the narrowest"
 pub record Chosen (W : ℕ) (bytes : ℕ → ℕ) (s : Shape) : Type 0 where
   pub stored : Stores W bytes s
   pub smallest : (o : Shape) → Stores W bytes o → area s ≤ area o
   pub narrowest : (o : Shape) → Stores W bytes o → area o ≡ area s → s .w .0 ≤ o .w .0
 
--- the right child's corner: "at (x+w1, y)" under a vertical cut, "at (x, y+h1)" under a horizontal one
+-- Rule 14. The right child's corner: "at (x+w1, y)" under a vertical cut, "at (x, y+h1)" under a horizontal one
 abbrev pub beside : Direction → Corner → Shape → Corner
 beside Vertical c s = corner (c .x .0 + s .w .0) (c .y .0)
 beside Horizontal c s = corner (c .x .0) (c .y .0 + s .h .0)
@@ -37,7 +37,7 @@ pub record Pair (W H : ℕ) (d : Direction) (lefts rights : Corner → ℕ → �
   pub right : Stores W (rights (beside d c s)) o
   pub box : pairing d s o ≡ whole
 
--- "takes the first shape of the left list there for which the right list .. has" one; no other right shape is as narrow
+-- Rule 14: "takes the first shape of the left list there for which the right list .. has" one; no other right shape is as narrow
 pub record Taken (W H : ℕ) (d : Direction) (lefts rights : Corner → ℕ → ℕ) (c : Corner) (whole s o : Shape)
     : Type 0 where
   pub pair : Pair W H d lefts rights c s o whole
@@ -54,7 +54,7 @@ Down W H Suits given slots (cut t d l r) c whole p =
     (s : Shape) × (o : Shape) × Taken W H d (slots (position l)) (slots (position r)) c whole s o
     × Down W H Suits given slots l c s p × Down W H Suits given slots r (beside d c s) o p
 
--- "Rows out: four bytes x, y, w, h for each module, in module order"
+-- Rule 15: "Rows out: four bytes x, y, w, h for each module, in module order"
 abbrev pub rowOf : Rectangle → List ℕ
 rowOf r = r .corner .x .0 ∷ r .corner .y .0 ∷ r .shape .w .0 ∷ r .shape .h .0 ∷ []
 

@@ -1,4 +1,4 @@
--- The design as a value: 01's limits, the tree of its tokens, and its tests in file order.
+-- The design as a value: the limits (rule 5 of docs/RULES.md), the tree of its tokens, and its tests in file order (rule 22).
 use mathlib.Core.Path.{_≡_}
 use mathlib.Core.Bool.{Bool, true, false, not, _&&_}
 use mathlib.Core.List.{List, [], _∷_}
@@ -22,7 +22,7 @@ use Rattle.rules.specs.Placement.{Placement, Lawful}
 use Rattle.rules.specs.Slot.{slot, Empty, CornerOn, Stairs, FullLists}
 use Rattle.rules.specs.Choice.{Chosen, Down}
 
--- "Limits: W 1..64, H 1..64, B 1..H, kinds 0..2, modules m 1..16, each of a need's three numbers 0..65,535, not all three
+-- Rule 5: "Limits: W 1..64, H 1..64, B 1..H, kinds 0..2, modules m 1..16, each of a need's three numbers 0..65,535, not all three
 -- zero." The numbers are said here alone, and no law names them.
 abbrev pub mostColumns : ℕ
 mostColumns = 64
@@ -106,7 +106,7 @@ unfoldable pub withinLimits : Design → Bool
 withinLimits d =
     lawfulChip (d .chip) && inRange 1 mostModules (d .modules) && all (d .modules) (λ k. lawfulNeed (needAt d k))
 
--- What suits a design's modules: "A rectangle suits it if it holds at least that many of each."
+-- What suits a design's modules (rule 4): "A rectangle suits it if it holds at least that many of each."
 abbrev pub SuitsOf : Design → ℕ → Rectangle → Type 0
 SuitsOf d k r = Suits (d .chip) (needAt d k) r
 
@@ -174,7 +174,7 @@ treeTest (things []) = Refused (NotOneThing 0)
 treeTest (things (t ∷ [])) = Done
 treeTest (things (t ∷ (u ∷ ts))) = Refused (NotOneThing 0)
 
--- "A design handed over as a value is tested first by the same limits and tree rules, in file order, with 4, 5 or 6 at
+-- Rule 22: "A design handed over as a value is tested first by the same limits and tree rules, in file order, with 4, 5 or 6 at
 -- position 0."
 unfoldable pub valueTest : Design → Reply
 valueTest d = elim (withinLimits d) [ true ↦ treeTest (standingOf d (nodes d)) | false ↦ Refused (BreaksLimits 0) ]
@@ -183,7 +183,7 @@ valueTest d = elim (withinLimits d) [ true ↦ treeTest (standingOf d (nodes d))
 abbrev pub LawfulDesign : Design → Type 0
 LawfulDesign d = valueTest d ≡ Done
 
--- "Places beyond W, m and 2m-1 in it are ignored, also when two designs are called the same."
+-- Rule 22: "Places beyond W, m and 2m-1 in it are ignored, also when two designs are called the same."
 pub record SameDesign (d e : Design) : Type 0 where
   pub chip : SameChip (d .chip) (e .chip)
   pub modules : d .modules ≡ e .modules

@@ -1,4 +1,4 @@
--- 01, "Edits".
+-- Edits: rules 16 and 17 of docs/RULES.md.
 use mathlib.Core.Path.{_≡_}
 use mathlib.Core.Bool.{Bool, So, _&&_}
 use mathlib.Core.List.{List}
@@ -28,7 +28,7 @@ unfoldable pub namesPlace : Design → Edit → Bool
 namesPlace d (Change k n) = ltb k (d .modules) && lawfulNeed n
 namesPlace d (Turn t) = ltb t (nodes d) && isCut (tokenAt d t)
 
--- "turn the cut at position t into the other kind"; only a cut is turned
+-- Rule 16: "turn the cut at position t into the other kind"; only a cut is turned
 abbrev pub other : Direction → Direction
 other Vertical = Horizontal
 other Horizontal = Vertical
@@ -38,7 +38,7 @@ turned (Cut d) = Cut (other d)
 turned (Module k) = Module k
 turned Beyond = Beyond
 
--- "hands the design back with that one change": the need of module k, or the cut at position t turned into the other kind
+-- Rule 16: "hands the design back with that one change": the need of module k, or the cut at position t turned into the other kind
 unfoldable pub changed : Design → Edit → Design
 changed d (Change k n) = withNeeds d (set (d .needs) k n)
 changed d (Turn t) = withTokens d (set (d .tokens) t (numberOf mostModules (turned (tokenAt d t))))
@@ -59,13 +59,13 @@ pub record Paired (W H : ℕ) (d : Direction) (lefts rights : Corner → ℕ →
   pub pair : Pair W H d lefts rights c s o whole
   pub fits : OnChip W H (record { corner = c; shape = whole })
 
--- "A changed leaf is relisted from its need. A cut's slot becomes the undominated ones among all pairings": what a node's
+-- Rule 17: "A changed leaf is relisted from its need. A cut's slot becomes the undominated ones among all pairings": what a node's
 -- slot is the list of, over the bytes as they then stand.
 abbrev pub Relists : ℕ → ℕ → ℕ → (ℕ → Rectangle → Type 0) → List ℕ → Tree → Corner → Shape → Type 0
 Relists W H R Lists work (leaf t k) c = ShapeAt W H Lists (leaf t k) c
 Relists W H R Lists work (cut t d l r) c = Paired W H d (slot W R work (position l)) (slot W R work (position r)) c
 
--- "relists the changed node and each node above it": those whose tree spans the changed position. All other bytes stand.
+-- Rule 17: "relists the changed node and each node above it": those whose tree spans the changed position. All other bytes stand.
 pub record Relisted (W H R : ℕ) (Lists : ℕ → Rectangle → Type 0) (node : ℕ → Tree) (n at : ℕ) (before after : List ℕ)
     : Type 0 where
   pub way : (t : ℕ) (c : Corner) → t < n → CornerOn W R c → So (spans (node t) at)

@@ -1,4 +1,4 @@
--- The rules of the scope document (01), in its words and its order: what a reader has to believe.
+-- The rules (docs/RULES.md), in the words and the order of the document that they come from: what a reader has to believe.
 pub mod Search
 pub mod Chip
 pub mod Tree

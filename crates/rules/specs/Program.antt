@@ -1,4 +1,4 @@
--- 01, "The plan program": its two sizes, and the text that it prints.
+-- The plan program, rule 26 of docs/RULES.md: its two sizes, and the text that it prints.
 use mathlib.Core.Bool.{true, false}
 use mathlib.Core.List.{List, [], _∷_, _++_}
 use Prim.Native.Nat.{ℕ, zero, suc, _+_, _/_, _%_}

@@ -1,4 +1,4 @@
--- 01, "Numbered replies": the number and the values of every answer.
+-- Numbered replies (the table of docs/RULES.md, and rule 25): the number and the values of every answer.
 use Prim.Native.Nat.{ℕ}
 use Rattle.rules.specs.declared.Shape.{Shape}
 use Rattle.rules.specs.declared.Refusal.{Refusal}

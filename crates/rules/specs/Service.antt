@@ -1,5 +1,5 @@
--- The seven services of 01: what each contract says of its reply and of every lent byte, for all inputs. Each is said by its
--- outcomes, in the order in which the refusals are given.
+-- The seven services, rules 20 to 25 of docs/RULES.md: what each contract says of its reply and of every lent byte, for all
+-- inputs. Each is said by its outcomes, in the order in which the refusals are given.
 use mathlib.Core.Path.{_≡_}
 use mathlib.Core.Logic.{_⊎_}
 use mathlib.Core.Bool.{So}
@@ -28,7 +28,7 @@ use Rattle.rules.specs.Edit.{namesPlace, changed, EditedLists}
 use Rattle.rules.specs.Bytes.{Took, took, refuse, designBytes, designAt, chipFrom, designFrom}
 use Rattle.rules.specs.Check.{verdict}
 
--- read. "The design that a refused reading hands back is all zeros."
+-- read, rule 21. "The design that a refused reading hands back is all zeros."
 unfoldable pub zeros : Design
 zeros = designFrom (chipFrom 0 0 0 []) 0 [] []
 
@@ -39,7 +39,7 @@ handed (refuse e) = record { reply = Refused e; design = zeros }
 abbrev pub Reads : List ℕ → Handed → Type 0
 Reads s r = r ≡ handed (designAt s)
 
--- write: "8, otherwise the byte count, bytes past it staying"
+-- write, rule 23: "8, otherwise the byte count, bytes past it staying"
 pub record Writes (d : Design) (before : List ℕ) (r : Written) (after : List ℕ) : Type 0 where
   pub sized : Sized d
   pub unlawful : (e : Refusal) → valueTest d ≡ Refused e → (r ≡ written.Refused e) × (after ≡ before)
@@ -55,13 +55,13 @@ workOf d = workNeeded (widthOf d) (slotRows d) (nodes d)
 abbrev pub rowsOf : Design → ℕ
 rowsOf d = 4 * d .modules
 
--- a lawful design with enough room lent
+-- a lawful design with enough bytes lent
 pub record Enough (d : Design) (work rows : List ℕ) : Type 0 where
   pub lawful : LawfulDesign d
   pub bytes : workOf d ≤ length work
   pub places : rowsOf d ≤ length rows
 
--- list: 8
+-- list, rule 23: 8
 pub record Lists (d : Design) (before : List ℕ) (r : Reply) (after : List ℕ) : Type 0 where
   pub sized : Sized d
   pub unlawful : (e : Refusal) → valueTest d ≡ Refused e → (r ≡ Refused e) × (after ≡ before)
@@ -69,7 +69,7 @@ pub record Lists (d : Design) (before : List ℕ) (r : Reply) (after : List ℕ)
   pub done : LawfulDesign d → workOf d ≤ length before
       → (r ≡ Done) × PastKept (workOf d) before after × OwnLists d (slotsOf d after)
 
--- plan: 8, 10; "after plan, work holds the full lists"
+-- plan, rules 20 and 23: 8, 10; "after plan, work holds the full lists"
 pub record Plans (d : Design) (before rows : List ℕ) (r : Planned) (after rows' : List ℕ) : Type 0 where
   pub sized : Sized d
   pub unlawful : (e : Refusal) → valueTest d ≡ Refused e → (r ≡ planned.Refused e) × (after ≡ before) × (rows' ≡ rows)
@@ -81,7 +81,7 @@ pub record Plans (d : Design) (before rows : List ℕ) (r : Planned) (after rows
       → ChosenIn d after s → GoesDown d (slotsOf d after) s p
       → (r ≡ Box s) × (rows' ≡ rowsOut (d .modules) p ++ drop (rowsOf d) rows)
 
--- place: 8, 9, 10. "Place and edit give 9 if any slot of any node is not a stair. Place also gives 9 if a chosen shape has no pair
+-- place, rules 23 and 24: 8, 9, 10. "Place and edit give 9 if any slot of any node is not a stair. Place also gives 9 if a chosen shape has no pair
 -- below it or a leaf's shape does not suit." Work is only lent to be read.
 pub record Places (d : Design) (work rows : List ℕ) (r : Planned) (rows' : List ℕ) : Type 0 where
   pub sized : Sized d
@@ -98,7 +98,7 @@ pub record Places (d : Design) (work rows : List ℕ) (r : Planned) (rows' : Lis
       → ChosenIn d work s → GoesDown d (slotsOf d work) s p
       → (r ≡ Box s) × (rows' ≡ rowsOut (d .modules) p ++ drop (rowsOf d) rows)
 
--- edit: 11, 8, 9. "An edit hands the design back with that one change, or unchanged if refused."
+-- edit, rules 16, 23 and 24: 11, 8, 9. "An edit hands the design back with that one change, or unchanged if refused."
 abbrev pub Unchanged : Design → List ℕ → Handed → List ℕ → Refusal → Type 0
 Unchanged d before r after e = (r ≡ record { reply = Refused e; design = d }) × (after ≡ before)
 
@@ -112,7 +112,7 @@ pub record Edits (d : Design) (e : Edit) (before : List ℕ) (r : Handed) (after
   pub done : LawfulDesign d → So (namesPlace d e) → workOf d ≤ length before → AllStairs d (slotsOf d before)
       → (r ≡ record { reply = Done; design = changed d e }) × EditedLists d e before after
 
--- check
+-- check, rule 23
 pub record Checks (d : Design) (rows : List ℕ) (r : Reply) : Type 0 where
   pub sized : Sized d
   pub judged : r ≡ verdict d rows

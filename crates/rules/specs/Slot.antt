@@ -1,4 +1,4 @@
--- 01, "Lists": how lists stand in the work bytes.
+-- How lists stand in the work bytes: rules 11 and 12 of docs/RULES.md.
 use mathlib.Core.Path.{_≡_}
 use mathlib.Core.Logic.{_↔_}
 use mathlib.Core.List.{List}
@@ -13,11 +13,11 @@ use Rattle.rules.specs.Shape.{ShapeAt, Undominated}
 -- Slots stand for the corners of the lowest R rows: of a design all H of them (`slotRows` in Design.antt). R is counted apart from H,
 -- which bounds what a shape may reach.
 
--- "Node t at corner (x, y) has a slot of W bytes starting at ((t·H + y)·W + x)·W."
+-- Rule 11: "Node t at corner (x, y) has a slot of W bytes starting at ((t·H + y)·W + x)·W."
 abbrev pub slotStart : ℕ → ℕ → ℕ → Corner → ℕ
 slotStart W R t c = ((t * R + c .y .0) * W + c .x .0) * W
 
--- "Work needs (2m-1)·H·W·W bytes": for n nodes
+-- Rule 11: "Work needs (2m-1)·H·W·W bytes": for n nodes
 abbrev pub workNeeded : ℕ → ℕ → ℕ → ℕ
 workNeeded W R n = n * R * W * W
 
@@ -30,7 +30,7 @@ pub record CornerOn (W H : ℕ) (c : Corner) : Type 0 where
   pub column : c .x .0 < W
   pub row : c .y .0 < H
 
--- "Byte j of the slot is the height of the listed shape of width j+1, or 0 where there is none": the slot holds this shape.
+-- Rule 11: "Byte j of the slot is the height of the listed shape of width j+1, or 0 where there is none": the slot holds this shape.
 pub record Stores (W : ℕ) (bytes : ℕ → ℕ) (s : Shape) : Type 0 where
   pub wide : 1 ≤ s .w .0
   pub within : s .w .0 ≤ W
@@ -52,12 +52,12 @@ ListsAt W H R Lists slots t = (c : Corner) → CornerOn W R c → IsListOf W (sl
 abbrev pub FullLists : ℕ → ℕ → ℕ → (ℕ → Rectangle → Type 0) → (ℕ → Tree) → ℕ → (ℕ → Corner → ℕ → ℕ) → Type 0
 FullLists W H R Lists node n slots = (t : ℕ) → t < n → ListsAt W H R Lists (slots t) (node t)
 
--- "bytes after them are never touched"
+-- Rule 11: "bytes after them are never touched"
 pub record PastKept (size : ℕ) (before after : List ℕ) : Type 0 where
   pub length : length after ≡ length before
   pub past : (i : ℕ) → size ≤ i → getD after i 0 ≡ getD before i 0
 
--- "A slot is a stair if its nonzero bytes fall strictly, none exceeds H-y, and none stands at a width over W-x."
+-- Rule 12: "A slot is a stair if its nonzero bytes fall strictly, none exceeds H-y, and none stands at a width over W-x."
 pub record Stair (W H : ℕ) (c : Corner) (bytes : ℕ → ℕ) : Type 0 where
   pub fall : (i j : ℕ) → i < j → j < W → 1 ≤ bytes i → 1 ≤ bytes j → bytes j < bytes i
   pub rows : (j : ℕ) → j < W → bytes j ≤ H - c .y .0

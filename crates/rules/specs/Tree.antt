@@ -1,4 +1,4 @@
--- 01, "The tree and what follows it": the tree.
+-- The tree: rule 6 of docs/RULES.md.
 use mathlib.Core.Bool.{Bool, true, false, not, _&&_, _||_}
 use mathlib.Core.List.{List, [], _∷_}
 use Prim.Native.Nat.{ℕ, zero, suc, _+_}
@@ -28,7 +28,7 @@ unfoldable pub spans : Tree → ℕ → Bool
 spans (leaf t k) p = eqb p t
 spans (cut t d l r) p = eqb p t || (spans l p || spans r p)
 
--- "0 is a vertical cut, 1 a horizontal cut, k+2 is module k", for modules below a bound
+-- Rule 6: "0 is a vertical cut, 1 a horizontal cut, k+2 is module k", for modules below a bound
 abbrev pub tokenOf : ℕ → ℕ → Token
 tokenOf most zero = Cut Vertical
 tokenOf most (suc zero) = Cut Horizontal
@@ -61,13 +61,13 @@ unfoldable pub stands : List Tree → ℕ → Bool
 stands [] k = false
 stands (t ∷ ts) k = has t k || stands ts k
 
--- "A cut joins the two things standing last, the earlier being its left child." With fewer than two it is refused.
+-- Rule 6: "A cut joins the two things standing last, the earlier being its left child." With fewer than two it is refused.
 unfoldable pub joined : ℕ → Direction → List Tree → Standing
 joined t d [] = refused
 joined t d (r ∷ []) = refused
 joined t d (r ∷ (l ∷ ts)) = things (cut t d l r ∷ ts)
 
--- "Each module stands once." There are m of them, so a token over m+1 is refused, and a module repeated.
+-- Rule 6: "Each module stands once." There are m of them, so a token over m+1 is refused, and a module repeated.
 unfoldable pub added : ℕ → ℕ → ℕ → List Tree → Standing
 added m t k ts = elim (ltb k m && not (stands ts k)) [ true ↦ things (leaf t k ∷ ts) | false ↦ refused ]
 
