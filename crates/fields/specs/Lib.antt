@@ -1,0 +1,2 @@
+-- The order of a design's numbers, and where each begins.
+pub mod Order
