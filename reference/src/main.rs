@@ -3,25 +3,30 @@
 //! `reference vectors FOLDER` runs stored cases, `reference examples` the bench examples,
 //! `reference random SEED COUNT` the services on random designs against the definitions,
 //! `reference plan` the plan program on standard input, and `reference ask` answers requests;
-//! `reference requests FILE` makes requests of stored cases; `reference cases` is the plan program on
-//! many inputs, each with its length in two bytes before it.
+//! `reference requests FILE` makes requests of stored cases; `reference say` says what the plan program's
+//! answer means, `reference hex` and `hex_back` turn typed text into bytes and back; `reference cases`, `says` and `hexes` are the plan program, `say`, and typed text turned and
+//! turned back, on many inputs, each with its length in two bytes before it; `damaged` and `typed` write such inputs.
 
 mod ask;
 mod bytes;
 mod check;
 mod chip;
 mod choice;
+mod damaged;
 mod design;
 mod edit;
 mod examples;
+mod fields;
 mod json;
 mod lists;
 mod program;
 mod random;
 mod reply;
+mod say;
 mod shapes;
 mod tree;
 mod trials;
+mod typed;
 mod vectors;
 
 use std::env;
@@ -35,7 +40,14 @@ const USAGE: &str = "usage: reference vectors FOLDER
        reference plan < FILE
        reference ask < REQUESTS
        reference requests FILE
-       reference cases < INPUTS";
+       reference cases < INPUTS
+       reference say < FILE
+       reference hex < TEXT
+       reference hex_back < FILE
+       reference says < INPUTS
+       reference hexes < INPUTS
+       reference damaged
+       reference typed";
 
 fn main() -> ExitCode {
     let arguments: Vec<String> = env::args().skip(1).collect();
@@ -44,9 +56,16 @@ fn main() -> ExitCode {
         ["vectors", folder] => vectors::run_folder(Path::new(folder)),
         ["examples"] => Ok(examples::run()),
         ["random", seed, count] => random_designs(seed, count),
-        ["plan"] => plan_standard_input(),
+        ["plan"] => answer_standard_input(program::plan_program),
+        ["say"] => answer_standard_input(say::say),
+        ["hex"] => answer_standard_input(typed::hex_program),
+        ["hex_back"] => answer_standard_input(typed::hex_back_program),
         ["ask"] => ask_standard_input(),
-        ["cases"] => plan_cases(),
+        ["cases"] => answer_cases(program::plan_program),
+        ["says"] => answer_cases(say::say),
+        ["hexes"] => answer_cases(typed::round_trip),
+        ["damaged"] => write_out(&damaged::designs()),
+        ["typed"] => write_out(&damaged::typed()),
         ["requests", file] => ask::requests(Path::new(file)).map(|text| {
             print!("{text}");
             true
@@ -69,24 +88,27 @@ fn random_designs(seed: &str, count: &str) -> Result<bool, String> {
     Ok(trials::run(seed, count))
 }
 
-fn plan_standard_input() -> Result<bool, String> {
+fn answer_standard_input<T: AsRef<[u8]>>(answer: fn(&[u8]) -> T) -> Result<bool, String> {
     let mut input = Vec::new();
     let mut limited = io::stdin().lock().take(program::MOST_INPUT as u64);
     limited.read_to_end(&mut input).map_err(|e| e.to_string())?;
-    let text = program::plan_program(&input);
+    write_out(answer(&input).as_ref())
+}
+
+fn write_out(bytes: &[u8]) -> Result<bool, String> {
     let mut out = io::stdout().lock();
-    out.write_all(text.as_bytes()).map_err(|e| e.to_string())?;
+    out.write_all(bytes).map_err(|e| e.to_string())?;
     Ok(true)
 }
 
-fn plan_cases() -> Result<bool, String> {
+fn answer_cases(answer: fn(&[u8]) -> String) -> Result<bool, String> {
     let mut input = Vec::new();
     let mut stdin = io::stdin().lock();
     stdin.read_to_end(&mut input).map_err(|e| e.to_string())?;
     let mut rest = &input[..];
     while let [low, high, after @ ..] = rest {
         let long = (usize::from(*low) + 256 * usize::from(*high)).min(after.len());
-        print!("{}", program::plan_program(&after[..long]));
+        print!("{}", answer(&after[..long]));
         rest = &after[long..];
     }
     Ok(true)

@@ -9,7 +9,7 @@ use crate::tree::MOST_MODULES;
 /// "The program reads at most 4,096 bytes, enough to decide every reading."
 pub const MOST_INPUT: usize = 4_096;
 /// "It keeps a work array of 65,536 bytes."
-const WORK: usize = 65_536;
+pub const WORK: usize = 65_536;
 
 /// What the program prints for this standard input.
 ///
