@@ -11,7 +11,7 @@ use crate::reply::{
     TOO_SHORT,
 };
 use crate::tree::MOST_MODULES;
-use crate::typed::is_typed;
+use crate::typed::{is_text, is_typed};
 
 /// The line for these bytes.
 pub fn say(input: &[u8]) -> String {
@@ -22,6 +22,9 @@ pub fn say(input: &[u8]) -> String {
     }
     if is_typed(bytes) {
         return "these are hexadecimal digits typed as text; ./hex turns them into a design\n".into();
+    }
+    if is_text(bytes) {
+        return "this is text and no design; ./hex says what is wrong with it as hexadecimal digits\n".into();
     }
     let place = reading.position;
     let numbers = values(bytes);

@@ -18,6 +18,12 @@ pub fn is_typed(text: &[u8]) -> bool {
     all && lines(text).any(|line| line.iter().any(u8::is_ascii_hexdigit))
 }
 
+/// Text that a person can read, with letters of any language behind the first.
+pub fn is_text(bytes: &[u8]) -> bool {
+    let readable = |b: &u8| !b.is_ascii_control() || b"\t\n\r".contains(b);
+    bytes.first().is_some_and(u8::is_ascii) && bytes.iter().all(readable)
+}
+
 /// The bytes of a text, or what is wrong with it: of two mistakes the one that stands first.
 pub fn turned(text: &[u8]) -> Result<Vec<u8>, String> {
     let mut bytes = Vec::new();

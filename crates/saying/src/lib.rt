@@ -15,6 +15,7 @@ use rules::Shape;
 use telling::put_byte;
 use telling::put_number;
 use telling::put_word;
+use typed::is_text;
 use typed::is_typed;
 ghost use Prim.Native.Nat.{_≤_};
 ghost use lib.ListN.{length};
@@ -60,7 +61,7 @@ fn put_planned(out: &mut [u8], design: Design, planned: Planned, lent: usize) ->
     }
 }
 
-// A refusal of reading. Digits typed as text are no design's bytes, whatever number they would be.
+// A refusal of reading. Text is no design's bytes, whatever number they would be.
 fn put_refused(out: &mut [u8], bytes: &[u8], e: Refusal) -> usize
     ensures { λ r. ⌜ r ≤ length (now (out .exit)) ⌝ }
 {
@@ -69,6 +70,13 @@ fn put_refused(out: &mut [u8], bytes: &[u8], e: Refusal) -> usize
             out,
             0,
             b"these are hexadecimal digits typed as text; ./hex turns them into a design",
+        );
+    }
+    if is_text(bytes) {
+        return put_word(
+            out,
+            0,
+            b"this is text and no design; ./hex says what is wrong with it as hexadecimal digits",
         );
     }
     put_fault(out, bytes, e)

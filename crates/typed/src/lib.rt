@@ -3,6 +3,7 @@
 mod answers;
 mod back;
 mod digits;
+mod text;
 
 pub use answers::answer_back;
 pub use answers::answer_text;
@@ -10,6 +11,7 @@ pub use back::put_back;
 use digits::Digit;
 use digits::digit_in;
 use telling::put_byte;
+pub use text::is_text;
 ghost use mathlib.Core.Path.{_≡_};
 ghost use Prim.Native.Nat.{_≤_};
 ghost use lib.ListN.{length};
