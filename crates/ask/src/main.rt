@@ -4,8 +4,11 @@ use asking::next_of;
 use asking::nothing_held;
 use asking::put_bad;
 use asking::serve;
-use libc::STDIN_FILENO;
 use libc::STDOUT_FILENO;
+use taking::Taken;
+use taking::say_unread;
+use taking::say_unwritten;
+use taking::take_some;
 ghost use Prim.Native.Nat.{_≤_};
 ghost use lib.ListN.{length};
 ghost use Rattle.keeping.specs.Lent.{Lent};
@@ -22,13 +25,27 @@ const ROWS_ROOM: usize = 1_024;
 const ANSWER_ROOM: usize = 16_384;
 
 // Of the bytes read, those from `from` to `to` are not served yet, and the line that they begin goes to `end`. It is long
-// if its start had no room and is dropped already. The input may be over.
+// if its start had no room and is dropped already. The input may be over, and it is too where it could not be read.
 struct Reading {
     from: usize,
     end: usize,
     to: usize,
     long: bool,
     over: bool,
+    failed: bool,
+}
+
+// What is held after a line, and whether its answer was written.
+struct Told {
+    held: Held,
+    written: bool,
+}
+
+// What is read and held after a line, and whether to go on.
+struct Turn {
+    reading: Reading,
+    held: Held,
+    more: bool,
 }
 
 // Moves the bytes from `from` to `to` to the front.
@@ -40,12 +57,15 @@ fn move_down(input: &mut [u8], from: usize, to: usize)
     }
 }
 
-// Reads once, and says how many bytes came.
-fn read_some(room: &mut [u8]) -> usize
-    ensures { λ r. ⌜ r ≤ length (now (room .exit)) ⌝ }
+// Reads some bytes, or says why they can't be read.
+fn take_or_say(room: &mut [u8]) -> Taken
+    ensures { λ r. ⌜ r .count ≤ length (now (room .exit)) ⌝ }
 {
-    let got = libc::read(STDIN_FILENO, room);
-    io::count(got, room)
+    let taken = take_some(room);
+    if taken.failed {
+        say_unread();
+    }
+    taken
 }
 
 // Reads on behind the bytes that are not served yet, or drops them where they fill all the room.
@@ -63,16 +83,19 @@ fn read_on(s: Reading, input: &mut [u8]) -> Reading
             to: 0,
             long: true,
             over: false,
+            failed: false,
         };
     }
     move_down(input, from, to);
-    let more = read_some(&mut input[left..]);
+    let taken = take_or_say(&mut input[left..]);
+    let more = taken.count;
     Reading {
         from: 0,
         end: left,
         to: left + more,
         long: s.long,
         over: more == 0,
+        failed: taken.failed,
     }
 }
 
@@ -99,6 +122,15 @@ fn read_line(s: Reading, input: &mut [u8]) -> Reading
     s
 }
 
+// Writes an answer, or says why it can't be written.
+fn write_or_say(answer: &[u8]) -> bool {
+    let written = io::write_all(STDOUT_FILENO, answer);
+    if !written {
+        say_unwritten();
+    }
+    written
+}
+
 // Serves the line, and writes its answer.
 fn answer(
     s: Reading,
@@ -108,21 +140,22 @@ fn answer(
     work: &mut [u8],
     rows: &mut [u8],
     out: &mut [u8],
-) -> Held
+) -> Told
     requires { ⌜ Inside s (now input) × Lent held (now work) (now rows) ⌝ }
-    ensures { λ r. ⌜ Lent r (now (work .exit)) (now (rows .exit)) ⌝ }
+    ensures { λ r. ⌜ Lent (r .held) (now (work .exit)) (now (rows .exit)) ⌝ }
 {
     if s.long {
         let n = put_bad(number, out);
-        io::write_all(STDOUT_FILENO, &out[0..n]);
-        return held;
+        let written = write_or_say(&out[0..n]);
+        return Told { held, written };
     }
     let from = s.from;
     let end = s.end;
     let served = serve(&input[from..end], number, held, work, rows, out);
     let n = served.length;
-    io::write_all(STDOUT_FILENO, &out[0..n]);
-    served.held
+    let written = write_or_say(&out[0..n]);
+    let held = served.held;
+    Told { held, written }
 }
 
 // Past the line and its newline, if it has one.
@@ -137,15 +170,47 @@ fn past(s: Reading) -> Reading
         to: s.to,
         long: false,
         over: s.over,
+        failed: s.failed,
     }
 }
 
-// The input is over, and no line is left: the last one may have no newline.
+// No line is left: the input is over, whose last line may have no newline, or it could not be read, and then what was read
+// of a line could be the front of another.
 fn is_done(s: Reading) -> bool {
-    s.over && s.from == s.to && !s.long
+    s.failed || s.over && s.from == s.to && !s.long
 }
 
-// Serves line after line until the input is over.
+// Reads a line and serves it, if there is one.
+fn step(
+    s: Reading,
+    number: usize,
+    held: Held,
+    input: &mut [u8],
+    work: &mut [u8],
+    rows: &mut [u8],
+    out: &mut [u8],
+) -> Turn
+    requires { ⌜ Inside s (now input) × Lent held (now work) (now rows) ⌝ }
+    ensures { λ r. ⌜ Inside (r .reading) (now (input .exit)) × Lent (r .held) (now (work .exit)) (now (rows .exit)) ⌝ }
+{
+    let reading = read_line(s, input);
+    if is_done(reading) {
+        return Turn {
+            reading,
+            held,
+            more: false,
+        };
+    }
+    let told = answer(reading, number, held, input, work, rows, out);
+    let held = told.held;
+    Turn {
+        reading: past(reading),
+        held,
+        more: told.written,
+    }
+}
+
+// Serves line after line until the input is over, or it can't be read, or an answer can't be written.
 fn run(input: &mut [u8], work: &mut [u8], rows: &mut [u8], out: &mut [u8]) {
     let mut held = nothing_held();
     let mut s = Reading {
@@ -154,14 +219,15 @@ fn run(input: &mut [u8], work: &mut [u8], rows: &mut [u8], out: &mut [u8]) {
         to: 0,
         long: false,
         over: false,
+        failed: false,
     };
     for number in 1..usize::MAX {
-        s = read_line(s, input);
-        if is_done(s) {
+        let turn = step(s, number, held, input, work, rows, out);
+        if !turn.more {
             return;
         }
-        held = answer(s, number, held, input, work, rows, out);
-        s = past(s);
+        s = turn.reading;
+        held = turn.held;
     }
 }
 

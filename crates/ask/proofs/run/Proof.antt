@@ -2,7 +2,6 @@
 -- is how many numbers are left for lines. Assumes nothing.
 use mathlib.Core.Path.{_≡_}
 use Prim.Native.Nat.{_-_, _≤_}
-use native.Mathlib.Omega.{arith}
 use lib.ListN.{length}
 use borrow.Author.Needs.{needs}
 use Rattle.keeping.specs.Lent.{Lent}
@@ -24,11 +23,8 @@ nothing-held-requires c κs = search needs
 loop-holds : tie.Need-loop-holds Inv-loop μ-loop
 loop-holds c = search needs
 
-read-line-requires : tie.Need-read-line-requires Inv-loop μ-loop
-read-line-requires c κs = search needs
-
-is-done-requires : tie.Need-is-done-requires Inv-loop μ-loop
-is-done-requires c κs = search needs
+step-requires : tie.Need-step-requires Inv-loop μ-loop
+step-requires c κs = search needs
 
 same-length : tie.Need-same-length Inv-loop μ-loop
 same-length c = search needs
@@ -45,12 +41,6 @@ same-length-4 c = search needs
 returns : tie.Need-returns Inv-loop μ-loop
 returns c = search needs
 
-answer-requires : tie.Need-answer-requires Inv-loop μ-loop
-answer-requires c κs = search needs
-
-past-requires : tie.Need-past-requires Inv-loop μ-loop
-past-requires c κs = search needs
-
 add-number : tie.Need-add-number Inv-loop μ-loop
 add-number c = search needs
 
@@ -58,17 +48,7 @@ loop-less : tie.Need-loop-less Inv-loop μ-loop
 loop-less c = search needs
 
 loop-again : tie.Need-loop-again Inv-loop μ-loop
-loop-again c =
-    let read = c .before .before .before .before .before .before .before .before .before .before .before .before .before .before .before in
-    let turn = read .before .before .before in let same = turn .before .loop .inv in (
-      omega (arith, read .before .read-line .ensures),
-      c .before .before .before .before .before .before .before .answer .ensures,
-      omega (arith, turn .loop-test .taken),
-      omega (arith, same .3, read .input .given),
-      omega (arith, same .4),
-      omega (arith, same .5),
-      omega (arith, same .6),
-    )
+loop-again c = search needs
 
 same-length-5 : tie.Need-same-length-5 Inv-loop μ-loop
 same-length-5 c = search needs
@@ -93,15 +73,12 @@ run-spec =
     μ-loop
     nothing-held-requires
     loop-holds
-    read-line-requires
-    is-done-requires
+    step-requires
     same-length
     same-length-2
     same-length-3
     same-length-4
     returns
-    answer-requires
-    past-requires
     add-number
     loop-less
     loop-again

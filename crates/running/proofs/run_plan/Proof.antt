@@ -4,11 +4,17 @@ use Rattle.putting.proofs.Putting.{ends-inside, front-length}
 use Rattle.running.proofs.run_plan.Statement.{statement}
 use Rattle.running.proofs.run_plan.Tie as tie
 
-slice-aggregate-read-full : tie.Need-slice-aggregate-read-full
-slice-aggregate-read-full c = search needs
+slice-aggregate-take-all : tie.Need-slice-aggregate-take-all
+slice-aggregate-take-all c = search needs
 
-read-full-requires : tie.Need-read-full-requires
-read-full-requires c κs = search needs
+take-all-requires : tie.Need-take-all-requires
+take-all-requires c κs = search needs
+
+say-unread-requires : tie.Need-say-unread-requires
+say-unread-requires c κs = search needs
+
+returns : tie.Need-returns
+returns c = search needs
 
 plan-input-requires : tie.Need-plan-input-requires
 plan-input-requires c κs = search needs
@@ -22,17 +28,27 @@ slice-aggregate-write-all c = front-length (c .before .plan-input .ensures .runs
 write-all-requires : tie.Need-write-all-requires
 write-all-requires c κs = search needs
 
-returns : tie.Need-returns
-returns c = search needs
+say-unwritten-requires : tie.Need-say-unwritten-requires
+say-unwritten-requires c κs = search needs
+
+returns-2 : tie.Need-returns-2
+returns-2 c = search needs
+
+returns-3 : tie.Need-returns-3
+returns-3 c = search needs
 
 pub run-plan-spec : {M : Type 1} → statement M
 run-plan-spec =
     tie.close
     (tie.spec
-    slice-aggregate-read-full
-    read-full-requires
+    slice-aggregate-take-all
+    take-all-requires
+    say-unread-requires
+    returns
     plan-input-requires
     array-share-prefix-text
     slice-aggregate-write-all
     write-all-requires
-    returns)
+    say-unwritten-requires
+    returns-2
+    returns-3)
