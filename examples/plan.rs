@@ -1,7 +1,10 @@
-//! Plans a design from Rust: `plan FILE` prints what the plan program prints, the box and a line k x y w h for each module.
+//! Plans a design from Rust: `plan FILE` prints what the plan program prints: `plan 0 W H`, the box, and a line `k x y w h` for
+//! each module, or a refusal, `plan N P`. The exit status is 0 done, 1 refused, 2 could not read or write.
 
+use std::env;
+use std::fs::File;
+use std::io::{self, Read, Write};
 use std::process::ExitCode;
-use std::{env, fs};
 
 #[link(name = "cellweaver_c", kind = "static")]
 extern "C" {
@@ -88,19 +91,37 @@ fn planned(bytes: &[u8]) -> Result<String, Refused> {
     Ok(text)
 }
 
+/// The first bytes of a file, enough to decide every reading.
+fn design(name: &str) -> io::Result<Vec<u8>> {
+    let mut bytes = Vec::new();
+    File::open(name)?.take(4096).read_to_end(&mut bytes)?;
+    Ok(bytes)
+}
+
+/// Prints what plan answers for a design, and says whether it was done.
+fn print_plan(bytes: &[u8]) -> io::Result<bool> {
+    let (text, done) = match planned(bytes) {
+        Ok(text) => (text, true),
+        Err(Refused(number, value)) => (format!("plan {number} {value}\n"), false),
+    };
+    let mut out = io::stdout();
+    out.write_all(text.as_bytes())?;
+    out.flush()?;
+    Ok(done)
+}
+
 fn main() -> ExitCode {
-    let Some(bytes) = env::args().nth(1).and_then(|name| fs::read(name).ok()) else {
+    let names: Vec<String> = env::args().skip(1).collect();
+    let [name] = &names[..] else {
         eprintln!("usage: plan FILE");
         return ExitCode::from(2);
     };
-    match planned(&bytes) {
-        Ok(text) => {
-            print!("{text}");
-            ExitCode::SUCCESS
-        }
-        Err(Refused(number, value)) => {
-            println!("plan {number} {value}");
-            ExitCode::from(1)
+    match design(name).and_then(|bytes| print_plan(&bytes)) {
+        Ok(true) => ExitCode::SUCCESS,
+        Ok(false) => ExitCode::from(1),
+        Err(error) => {
+            eprintln!("plan: {name}: {error}");
+            ExitCode::from(2)
         }
     }
 }
