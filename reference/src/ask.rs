@@ -7,18 +7,22 @@ use std::path::Path;
 
 use crate::bytes::{read, write};
 use crate::check::check;
-use crate::chip::{Amounts, Columns, Rows};
+use crate::chip::{Amounts, Columns, Corner, Rows};
 use crate::choice::{place, plan, PlaceReply};
 use crate::design::{Design, ALL_ZEROS};
 use crate::edit::{edit, Edit};
 use crate::json::{parse, Json};
-use crate::lists::list;
+use crate::lists::{list, slot_start};
+use crate::reply::{Number, DONE};
 
 const MOST_LINE: usize = 16_384;
 const MOST_WORK: usize = 2_097_152;
 const MOST_ROWS: usize = 1_024;
 const MOST_WRITTEN: usize = 4_096;
 const MOST_READ: usize = 8_192;
+const MOST_KINDS: usize = 64;
+const MOST_MODULES: usize = 16;
+const MOST_TOKENS: usize = 31;
 
 /// What is held between requests.
 struct Held {
@@ -41,57 +45,87 @@ pub fn answers(requests: &[u8]) -> String {
     }
     for (i, line) in lines.iter().enumerate() {
         let answer = if line.len() >= MOST_LINE {
-            None
+            Err("too long")
         } else if line.is_empty() || line.starts_with(b"#") {
-            Some(String::new())
+            Ok(String::new())
         } else {
-            std::str::from_utf8(line).ok().and_then(|line| held.answer(line))
+            held.answer(&String::from_utf8_lossy(line))
         };
         match answer {
-            Some(answer) if answer.is_empty() => {}
-            Some(answer) => writeln!(text, "{answer}").unwrap(),
-            None => writeln!(text, "bad {}", i + 1).unwrap(),
+            Ok(answer) if answer.is_empty() => {}
+            Ok(answer) => writeln!(text, "{answer}").unwrap(),
+            Err(why) => writeln!(text, "bad {}: {why}", i + 1).unwrap(),
         }
     }
     text
 }
 
+/// What a line comes to, or why it is bad.
+type Judged<T> = Result<T, &'static str>;
+
+const NO_REQUEST: &str = "no such request";
+const WRONG_COUNT: &str = "wrong number of words";
+const NO_NUMBER: &str = "not a number";
+const NO_BYTES: &str = "not bytes";
+const NO_ROOM: &str = "more than there is";
+
+/// The numbers of words that a request of this name may have, its name among them.
+fn counts(name: &str) -> &'static [usize] {
+    match name {
+        "design" => &[8],
+        "work" | "poke" | "rows" | "row" | "write" => &[3],
+        "read" => &[2],
+        "slot" => &[4],
+        "edit" => &[3, 6],
+        "list" | "plan" | "place" | "check" => &[1],
+        _ => &[],
+    }
+}
+
 impl Held {
-    /// The answer to one line, empty if there is none to give; or nothing, if the line is bad.
-    fn answer(&mut self, line: &str) -> Option<String> {
+    /// The answer to one line, empty if there is none to give; or why the line is bad.
+    fn answer(&mut self, line: &str) -> Judged<String> {
         let words: Vec<&str> = line.split(' ').collect();
+        let counts = counts(words[0]);
+        if counts.is_empty() {
+            return Err(NO_REQUEST);
+        }
+        if !counts.contains(&words.len()) {
+            return Err(WRONG_COUNT);
+        }
         match words[..] {
             ["design", w, h, b, kinds, m, needs, tokens] => {
                 self.design = design([w, h, b, kinds, m, needs, tokens])?;
-                Some(String::new())
+                Ok(String::new())
             }
             ["work", n, fill] => {
                 self.work = lent(n, fill, MOST_WORK)?;
-                Some(String::new())
+                Ok(String::new())
             }
             ["rows", n, fill] => {
                 self.rows = lent(n, fill, MOST_ROWS)?;
-                Some(String::new())
+                Ok(String::new())
             }
             ["poke", at, bytes] => put(&mut self.work, at, bytes),
             ["row", at, bytes] => put(&mut self.rows, at, bytes),
             ["read", bytes] => self.read(bytes),
             ["write", n, fill] => self.write(n, fill),
+            ["slot", t, x, y] => self.slot(t, x, y),
             ["list"] => {
                 let number = list(&self.design, &mut self.work);
-                Some(format!("list {number} {}", hash(&self.work)))
+                Ok(format!("list {number} {}", hash(&self.work)))
             }
             ["plan"] => {
                 let reply = plan(&self.design, &mut self.work, &mut self.rows);
-                Some(self.floorplan("plan", reply))
+                Ok(self.floorplan("plan", reply))
             }
             ["place"] => {
                 let reply = place(&self.design, &self.work, &mut self.rows);
-                Some(self.floorplan("place", reply))
+                Ok(self.floorplan("place", reply))
             }
             ["check"] => {
                 let reply = check(&self.design, &self.rows);
-                Some(format!("check {} {}", reply.number, reply.name))
+                Ok(format!("check {} {}", reply.number, reply.name))
             }
             ["edit", "turn", t] => self.edit(Edit::Turn {
                 position: number(t)?,
@@ -104,116 +138,151 @@ impl Held {
                     multipliers: number(multipliers)?,
                 },
             }),
-            _ => None,
+            _ => Err(NO_REQUEST),
         }
     }
 
-    fn read(&mut self, word: &str) -> Option<String> {
-        let bytes = bytes(word)?;
-        if bytes.len() > MOST_READ {
-            return None;
-        }
+    fn read(&mut self, word: &str) -> Judged<String> {
+        let bytes = bytes(word, MOST_READ)?;
         let reply = read(&bytes);
         self.design = reply.design;
         let (number, position) = (reply.number, reply.position);
-        Some(format!("read {number} {position} {}", shown(&self.design)))
+        Ok(format!("read {number} {position} {}", shown(&self.design)))
     }
 
-    fn write(&self, n: &str, fill: &str) -> Option<String> {
+    fn write(&self, n: &str, fill: &str) -> Judged<String> {
         let mut out = lent(n, fill, MOST_WRITTEN)?;
         let reply = write(&self.design, &mut out);
-        Some(format!("write {} {} {}", reply.number, reply.count, hex(&out)))
+        let bytes = answered(reply.number, &out);
+        Ok(format!("write {} {} {bytes}", reply.number, reply.count))
+    }
+
+    /// The bytes of node t's slot at a corner, where the design's tree, its chip and the lent work have it.
+    fn slot(&self, t: &str, x: &str, y: &str) -> Judged<String> {
+        let chip = &self.design.chip;
+        let (t, x, y) = (number(t)?, number(x)?, number(y)?);
+        let limits = chip.width.0 <= 64 && chip.height.0 <= 64 && self.design.modules <= 16;
+        let on = x < chip.width.0 && y < chip.height.0 && t + 1 < 2 * self.design.modules;
+        if !(limits && on) {
+            return Err(NO_ROOM);
+        }
+        let corner = Corner {
+            x: Columns(x),
+            y: Rows(y),
+        };
+        let start = slot_start(chip, t, corner);
+        let slot = self.work.get(start..start + chip.width.0).ok_or(NO_ROOM)?;
+        Ok(format!("slot {}", hex(slot)))
     }
 
     fn floorplan(&self, service: &str, reply: PlaceReply) -> String {
         let (number, w, h) = (reply.number, reply.box_width, reply.box_height);
-        format!("{service} {number} {w} {h} {} {}", hex(&self.rows), hash(&self.work))
+        let rows = answered(number, &self.rows);
+        format!("{service} {number} {w} {h} {rows} {}", hash(&self.work))
     }
 
-    fn edit(&mut self, change: Edit) -> Option<String> {
+    fn edit(&mut self, change: Edit) -> Judged<String> {
         let reply = edit(&self.design, change, &mut self.work);
         self.design = reply.design;
         let work = hash(&self.work);
-        Some(format!("edit {} {} {work}", reply.number, shown(&self.design)))
+        Ok(format!("edit {} {} {work}", reply.number, shown(&self.design)))
     }
+}
+
+/// What a service put into lent bytes: nothing, unless it is done.
+fn answered(number: Number, bytes: &[u8]) -> String {
+    hex(if number == DONE { bytes } else { &[] })
 }
 
 /// A decimal number of at most 18 digits.
-fn number(word: &str) -> Option<usize> {
+fn number(word: &str) -> Judged<usize> {
     let digits = !word.is_empty() && word.len() <= 18 && word.bytes().all(|b| b.is_ascii_digit());
     if digits {
-        word.parse().ok()
+        word.parse().map_err(|_| NO_NUMBER)
     } else {
-        None
+        Err(NO_NUMBER)
     }
 }
 
-fn bytes(word: &str) -> Option<Vec<u8>> {
+/// Bytes, if they are no more than there are places: the length is judged first, then the digits.
+fn bytes(word: &str, places: usize) -> Judged<Vec<u8>> {
     if word == "-" {
-        return Some(Vec::new());
+        return Ok(Vec::new());
     }
     let digit = |byte: u8| match byte {
-        b'0'..=b'9' => Some(byte - b'0'),
-        b'a'..=b'f' => Some(byte - b'a' + 10),
-        _ => None,
+        b'0'..=b'9' => Ok(byte - b'0'),
+        b'a'..=b'f' => Ok(byte - b'a' + 10),
+        _ => Err(NO_BYTES),
     };
     if word.is_empty() || word.len() % 2 != 0 {
-        return None;
+        return Err(NO_BYTES);
+    }
+    if word.len() / 2 > places {
+        return Err(NO_ROOM);
     }
     word.as_bytes()
         .chunks(2)
-        .map(|pair| Some(16 * digit(pair[0])? + digit(pair[1])?))
+        .map(|pair| Ok(16 * digit(pair[0])? + digit(pair[1])?))
         .collect()
 }
 
-fn lent(n: &str, fill: &str, most: usize) -> Option<Vec<u8>> {
-    let (n, fill) = (number(n)?, number(fill)?);
-    if n > most || fill > 255 {
-        return None;
+/// A number that is at most so much.
+fn number_to(most: usize, word: &str) -> Judged<usize> {
+    let n = number(word)?;
+    if n > most {
+        return Err(NO_ROOM);
     }
-    Some(vec![fill as u8; n])
+    Ok(n)
 }
 
-fn put(lent: &mut [u8], at: &str, word: &str) -> Option<String> {
-    let (at, bytes) = (number(at)?, bytes(word)?);
-    let end = at.checked_add(bytes.len())?;
-    lent.get_mut(at..end)?.copy_from_slice(&bytes);
-    Some(String::new())
+fn lent(n: &str, fill: &str, most: usize) -> Judged<Vec<u8>> {
+    let n = number_to(most, n)?;
+    let fill = number_to(255, fill)?;
+    Ok(vec![fill as u8; n])
 }
 
-fn design([w, h, b, kinds, m, needs, tokens]: [&str; 7]) -> Option<Design> {
+fn put(lent: &mut [u8], at: &str, word: &str) -> Judged<String> {
+    let at = number_to(lent.len(), at)?;
+    let bytes = bytes(word, lent.len() - at)?;
+    lent[at..at + bytes.len()].copy_from_slice(&bytes);
+    Ok(String::new())
+}
+
+fn design([w, h, b, kinds, m, needs, tokens]: [&str; 7]) -> Judged<Design> {
     let mut design = ALL_ZEROS;
     design.chip.width = Columns(number(w)?);
     design.chip.height = Rows(number(h)?);
     design.chip.block = Rows(number(b)?);
+    for (place, kind) in design.chip.kinds.iter_mut().zip(bytes(kinds, MOST_KINDS)?) {
+        *place = usize::from(kind);
+    }
     design.modules = number(m)?;
-    for (i, kind) in bytes(kinds)?.into_iter().enumerate() {
-        *design.chip.kinds.get_mut(i)? = usize::from(kind);
-    }
-    for (i, token) in bytes(tokens)?.into_iter().enumerate() {
-        *design.tokens.get_mut(i)? = usize::from(token);
-    }
     if needs != "-" {
-        let numbers: Option<Vec<usize>> = needs.split(',').map(number).collect();
-        let numbers = numbers?;
-        for (k, three) in numbers.chunks(3).enumerate() {
-            let place = design.needs.get_mut(k)?;
-            place.clbs = three[0];
-            place.rams = three.get(1).copied().unwrap_or(0);
-            place.multipliers = three.get(2).copied().unwrap_or(0);
+        for (i, word) in needs.split(',').enumerate() {
+            let need = design.needs.get_mut(i / 3).ok_or(NO_ROOM)?;
+            let n = number(word)?;
+            match i % 3 {
+                0 => need.clbs = n,
+                1 => need.rams = n,
+                _ => need.multipliers = n,
+            }
         }
     }
-    Some(design)
+    for (place, token) in design.tokens.iter_mut().zip(bytes(tokens, MOST_TOKENS)?) {
+        *place = usize::from(token);
+    }
+    Ok(design)
 }
 
-/// A design in words, zeros at the ends left out.
+/// A design in words: W kinds, 3m needs, 2m-1 tokens, or as many as there are places, and more up to the last that is not zero.
 fn shown(design: &Design) -> String {
     let chip = &design.chip;
+    let m = design.modules.min(MOST_MODULES);
     let mut needs = Vec::new();
     for need in &design.needs {
         needs.extend([need.clbs, need.rams, need.multipliers]);
     }
-    let needs: Vec<String> = trimmed(&needs).iter().map(usize::to_string).collect();
+    let needs: Vec<String> = whole(&needs, 3 * m).iter().map(usize::to_string).collect();
     let needs = if needs.is_empty() {
         "-".to_string()
     } else {
@@ -224,19 +293,20 @@ fn shown(design: &Design) -> String {
         chip.width.0,
         chip.height.0,
         chip.block.0,
-        small(&chip.kinds),
+        small(&chip.kinds, chip.width.0),
         design.modules,
-        small(&design.tokens)
+        small(&design.tokens, (2 * m).saturating_sub(1))
     )
 }
 
-fn trimmed(numbers: &[usize]) -> &[usize] {
-    let length = numbers.iter().rposition(|&n| n != 0).map_or(0, |i| i + 1);
-    &numbers[..length]
+/// The first `count`, or as many as there are, and more up to the last that is not zero.
+fn whole(numbers: &[usize], count: usize) -> &[usize] {
+    let last = numbers.iter().rposition(|&n| n != 0).map_or(0, |i| i + 1);
+    &numbers[..last.max(count.min(numbers.len()))]
 }
 
-fn small(numbers: &[usize]) -> String {
-    hex(&trimmed(numbers).iter().map(|&n| n as u8).collect::<Vec<u8>>())
+fn small(numbers: &[usize], count: usize) -> String {
+    hex(&whole(numbers, count).iter().map(|&n| n as u8).collect::<Vec<u8>>())
 }
 
 fn hex(bytes: &[u8]) -> String {

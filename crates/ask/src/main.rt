@@ -1,5 +1,6 @@
 // Answers the requests of docs/ASK.md: reads them from standard input, a line at a time, and writes the answers.
 use asking::Held;
+use asking::Why;
 use asking::next_of;
 use asking::nothing_held;
 use asking::put_bad;
@@ -145,7 +146,7 @@ fn answer(
     ensures { λ r. ⌜ Lent (r .held) (now (work .exit)) (now (rows .exit)) ⌝ }
 {
     if s.long {
-        let n = put_bad(number, out);
+        let n = put_bad(number, Why::TooLong, out);
         let written = write_or_say(&out[0..n]);
         return Told { held, written };
     }

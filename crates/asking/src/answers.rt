@@ -13,6 +13,7 @@ use telling::put_hex;
 use telling::put_number;
 use telling::put_numbers;
 use telling::put_word;
+use words::Why;
 ghost use Prim.Native.Nat.{_≤_};
 ghost use lib.ListN.{length};
 
@@ -32,7 +33,7 @@ pub enum Shown {
 // Whether a line is a request, the design that is then held, and of the answer the first `count` of these numbers, and what
 // stands behind them.
 pub struct Answer {
-    pub good: bool,
+    pub why: Why,
     pub design: Design,
     pub numbers: [usize; MOST_NUMBERS],
     pub count: usize,
@@ -40,11 +41,11 @@ pub struct Answer {
 }
 
 // A line that is no request.
-pub fn no_answer(design: Design) -> Answer
+pub fn no_answer(design: Design, why: Why) -> Answer
     ensures { λ r. ⌜ r .count ≤ 3 ⌝ }
 {
     Answer {
-        good: false,
+        why,
         design,
         numbers: [0; MOST_NUMBERS],
         count: 0,
@@ -67,7 +68,7 @@ pub fn replied(design: Design, reply: Reply, count: usize, shown: Shown) -> Answ
 {
     let said = said(reply);
     Answer {
-        good: true,
+        why: Why::Fine,
         design,
         numbers: [said.0, said.1, 0],
         count,
@@ -94,7 +95,7 @@ pub fn planned(design: Design, planned: Planned) -> Answer
         Planned::Refused(e) => [number_of(e).0, 0, 0],
     };
     Answer {
-        good: true,
+        why: Why::Fine,
         design,
         numbers,
         count: MOST_NUMBERS,
@@ -111,7 +112,7 @@ pub fn written(design: Design, written: Written) -> Answer
         Written::Refused(e) => [number_of(e).0, 0, 0],
     };
     Answer {
-        good: true,
+        why: Why::Fine,
         design,
         numbers,
         count: 2,
@@ -119,10 +120,22 @@ pub fn written(design: Design, written: Written) -> Answer
     }
 }
 
+// Puts bytes that a service was lent: it put something there only if it is done.
+fn put_lent(out: &mut [u8], at: usize, reply: usize, bytes: &[u8]) -> usize
+    requires { ⌜ at ≤ length (now out) ⌝ }
+    ensures { λ r. ⌜ r ≤ length (now (out .exit)) ⌝ }
+{
+    if reply != 0 {
+        return put_word(out, at, b" -");
+    }
+    put_hex(out, at, bytes)
+}
+
 // Puts what stands behind the numbers.
 fn put_shown(
     out: &mut [u8],
     at: usize,
+    reply: usize,
     shown: Shown,
     design: Design,
     bytes: &[u8],
@@ -134,14 +147,14 @@ fn put_shown(
     match shown {
         Shown::Nothing => at,
         Shown::Design => put_design(out, at, design),
-        Shown::Bytes => put_hex(out, at, bytes),
+        Shown::Bytes => put_lent(out, at, reply, bytes),
         Shown::Work => put_hash(out, at, work),
         Shown::DesignAndWork => {
             let next = put_design(out, at, design);
             put_hash(out, next, work)
         }
         Shown::BytesAndWork => {
-            let next = put_hex(out, at, bytes);
+            let next = put_lent(out, at, reply, bytes);
             put_hash(out, next, work)
         }
     }
@@ -155,12 +168,30 @@ fn put_first(out: &mut [u8], at: usize, numbers: [usize; MOST_NUMBERS], n: usize
     put_numbers(out, at, b' ', &numbers[0..n])
 }
 
-// The answer to a bad line: bad N
-pub fn put_bad(number: usize, out: &mut [u8]) -> usize
+// Puts why a line is bad.
+fn put_why(out: &mut [u8], at: usize, why: Why) -> usize
+    requires { ⌜ at ≤ length (now out) ⌝ }
+    ensures { λ r. ⌜ r ≤ length (now (out .exit)) ⌝ }
+{
+    match why {
+        Why::Fine => at,
+        Why::NoRequest => put_word(out, at, b"no such request"),
+        Why::WrongCount => put_word(out, at, b"wrong number of words"),
+        Why::NoNumber => put_word(out, at, b"not a number"),
+        Why::NoBytes => put_word(out, at, b"not bytes"),
+        Why::NoRoom => put_word(out, at, b"more than there is"),
+        Why::TooLong => put_word(out, at, b"too long"),
+    }
+}
+
+// The answer to a bad line: bad N: WHY
+pub fn put_bad(number: usize, why: Why, out: &mut [u8]) -> usize
     ensures { λ r. ⌜ r ≤ length (now (out .exit)) ⌝ }
 {
     let at = put_word(out, 0, b"bad");
     let at = put_number(out, at, b' ', number);
+    let at = put_word(out, at, b": ");
+    let at = put_why(out, at, why);
     put_byte(out, at, b'\n')
 }
 
@@ -174,6 +205,6 @@ pub fn put_answer(out: &mut [u8], name: &[u8], answer: Answer, bytes: &[u8], wor
     let design = answer.design;
     let at = put_word(out, 0, name);
     let at = put_first(out, at, numbers, answer.count);
-    let at = put_shown(out, at, shown, design, bytes, work);
+    let at = put_shown(out, at, numbers[0], shown, design, bytes, work);
     put_byte(out, at, b'\n')
 }

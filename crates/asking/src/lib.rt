@@ -1,5 +1,6 @@
 // Serves the requests of docs/ASK.md, a line at a time: what is held and lent is kept, and the services are asked over it.
 mod answers;
+mod looking;
 mod names;
 mod services;
 mod writing;
@@ -10,6 +11,8 @@ use keeping::keep;
 pub use keeping::nothing_held;
 use keeping::with_design;
 use services::answer;
+pub use words::Why;
+use words::is_fine;
 pub use words::next_of;
 ghost use Prim.Native.Nat.{_≤_};
 ghost use lib.ListN.{length};
@@ -62,11 +65,12 @@ pub fn serve(
     if kept.other {
         return ask(line, number, held, work, rows, out);
     }
-    if kept.good {
+    let why = kept.why;
+    if is_fine(why) {
         return Served { held, length: 0 };
     }
     Served {
         held,
-        length: put_bad(number, out),
+        length: put_bad(number, why, out),
     }
 }

@@ -1,4 +1,7 @@
 // Which service a line asks.
+use keeping::is_kept;
+use words::Why;
+use words::is_among;
 use words::request_among;
 
 pub enum Service {
@@ -9,12 +12,16 @@ pub enum Service {
     Place,
     Edit,
     Check,
+    Slot,
     Unknown,
 }
 
 // The service that a line asks.
 pub fn service_in(line: &[u8]) -> Service {
-    match request_among(b"2read 3write 1list 1plan 1place 3edit 6edit 1check", line) {
+    match request_among(
+        b"2read 3write 1list 1plan 1place 3edit 6edit 1check 4slot",
+        line,
+    ) {
         0 => Service::Read,
         1 => Service::Write,
         2 => Service::List,
@@ -22,6 +29,18 @@ pub fn service_in(line: &[u8]) -> Service {
         4 => Service::Place,
         5 | 6 => Service::Edit,
         7 => Service::Check,
+        8 => Service::Slot,
         _ => Service::Unknown,
     }
+}
+
+// Why a line asks nothing: its first word is that of no request, or it has more or fewer words than the request.
+pub fn why_unknown(line: &[u8]) -> Why {
+    if is_kept(line) {
+        return Why::WrongCount;
+    }
+    if is_among(b"2read 3write 1list 1plan 1place 3edit 1check 4slot", line) {
+        return Why::WrongCount;
+    }
+    Why::NoRequest
 }

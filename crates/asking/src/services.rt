@@ -7,14 +7,17 @@ use crate::answers::planned;
 use crate::answers::put_answer;
 use crate::answers::put_bad;
 use crate::answers::replied;
+use crate::looking::look;
 use crate::names::Service;
 use crate::names::service_in;
+use crate::names::why_unknown;
 use crate::writing::write;
 use rules::Design;
 use spelling::Asked;
 use spelling::edit_in;
 use words::MOST_SAID;
 use words::bytes_in;
+use words::is_fine;
 use words::word;
 ghost use Prim.Native.Nat.{_≤_};
 ghost use lib.ListN.{length};
@@ -31,8 +34,9 @@ fn read(line: &[u8], design: Design) -> Answer
 {
     let mut bytes = [0u8; MOST_SAID];
     let said = bytes_in(word(line, 1), &mut bytes);
-    if !said.good {
-        return no_answer(design);
+    let why = said.why;
+    if !is_fine(why) {
+        return no_answer(design, why);
     }
     let n = said.n;
     handed_back(cellweaver::read(&bytes[0..n]), 2, Shown::Design)
@@ -43,14 +47,14 @@ fn read(line: &[u8], design: Design) -> Answer
 fn edit(line: &[u8], design: Design, work: &mut [u8]) -> Answer
     ensures { λ r. ⌜ r .count ≤ 3 ⌝ }
 {
-    let Asked::Edit(edit) = edit_in(line) else {
-        return no_answer(design);
-    };
-    handed_back(
-        cellweaver::edit(design, edit, work),
-        1,
-        Shown::DesignAndWork,
-    )
+    match edit_in(line) {
+        Asked::Edit(edit) => handed_back(
+            cellweaver::edit(design, edit, work),
+            1,
+            Shown::DesignAndWork,
+        ),
+        Asked::Bad(why) => no_answer(design, why),
+    }
 }
 
 // Asks the service.
@@ -64,7 +68,7 @@ fn ask(service: Service, line: &[u8], design: Design, work: &mut [u8], rows: &mu
         Service::Place => planned(design, cellweaver::place(design, work, rows)),
         Service::Edit => edit(line, design, work),
         Service::Check => replied(design, cellweaver::check(design, rows), 2, Shown::Nothing),
-        _ => no_answer(design),
+        _ => no_answer(design, why_unknown(line)),
     }
 }
 
@@ -85,12 +89,17 @@ pub fn answer(
         let length = write(line, number, design, out);
         return Answered { design, length };
     }
+    if let Service::Slot = service {
+        let length = look(line, number, design, work, out);
+        return Answered { design, length };
+    }
     let answer = ask(service, line, design, work, rows);
     let design = answer.design;
-    if answer.good {
+    let why = answer.why;
+    if is_fine(why) {
         let length = put_answer(out, word(line, 0), answer, rows, work);
         return Answered { design, length };
     }
-    let length = put_bad(number, out);
+    let length = put_bad(number, why, out);
     Answered { design, length }
 }

@@ -1,8 +1,9 @@
-// `write N F`: writes the held design into n bytes f, which are then shown: write NUMBER COUNT BYTES
+// `write N F`: writes the held design into n bytes f, which are shown if it is done: write NUMBER COUNT BYTES
 use crate::answers::put_answer;
 use crate::answers::put_bad;
 use crate::answers::written;
 use rules::Design;
+use words::is_fine;
 use words::lend;
 use words::word;
 ghost use Prim.Native.Nat.{_≤_};
@@ -24,8 +25,9 @@ pub fn write(line: &[u8], number: usize, design: Design, out: &mut [u8]) -> usiz
 {
     let mut bytes = [0u8; MOST_WRITTEN];
     let lent = lend(line, &mut bytes);
-    if !lent.good {
-        return put_bad(number, out);
+    let why = lent.why;
+    if !is_fine(why) {
+        return put_bad(number, why, out);
     }
     let n = lent.n;
     write_to(&mut bytes[0..n], word(line, 0), design, out)

@@ -2,10 +2,13 @@
 mod requests;
 
 use requests::Request;
+pub use requests::is_kept;
 use requests::request_in;
 use rules::Design;
 use spelling::design_in;
 use spelling::no_design;
+use words::Why;
+use words::is_fine;
 use words::lend;
 use words::poke;
 ghost use Prim.Native.Nat.{_≤_};
@@ -20,10 +23,10 @@ pub struct Held {
     pub rows: usize,
 }
 
-// What a line comes to: it asks something else, or it is good or not; and what is then held.
+// What a line comes to: it asks something else, or it is fine or bad; and what is then held.
 pub struct Kept {
     pub other: bool,
-    pub good: bool,
+    pub why: Why,
     pub held: Held,
 }
 
@@ -49,13 +52,13 @@ pub fn with_design(held: Held, design: Design) -> Held
     }
 }
 
-// A line that is good or not.
-fn taken(good: bool, held: Held) -> Kept
+// A line that is fine or bad.
+fn taken(why: Why, held: Held) -> Kept
     ensures { λ r. ⌜ Keeps held (r .held) ⌝ }
 {
     Kept {
         other: false,
-        good,
+        why,
         held,
     }
 }
@@ -65,11 +68,12 @@ fn hold(line: &[u8], held: Held) -> Kept
     ensures { λ r. ⌜ Keeps held (r .held) ⌝ }
 {
     let said = design_in(line);
-    if !said.good {
-        return taken(false, held);
+    let why = said.why;
+    if !is_fine(why) {
+        return taken(why, held);
     }
     let design = said.design;
-    taken(true, with_design(held, design))
+    taken(Why::Fine, with_design(held, design))
 }
 
 // `work N F`: lends n bytes of work, all f.
@@ -78,12 +82,13 @@ fn lend_work(line: &[u8], held: Held, work: &mut [u8]) -> Kept
     ensures { λ r. ⌜ (r .held .work ≤ length (now (work .entry))) × (r .held .rows ≡ held .rows) ⌝ }
 {
     let lent = lend(line, work);
-    if !lent.good {
-        return taken(false, held);
+    let why = lent.why;
+    if !is_fine(why) {
+        return taken(why, held);
     }
     let mut held = held;
     held.work = lent.n;
-    taken(true, held)
+    taken(Why::Fine, held)
 }
 
 // `rows N F`: lends n bytes of rows, all f.
@@ -92,12 +97,13 @@ fn lend_rows(line: &[u8], held: Held, rows: &mut [u8]) -> Kept
     ensures { λ r. ⌜ (r .held .work ≡ held .work) × (r .held .rows ≤ length (now (rows .entry))) ⌝ }
 {
     let lent = lend(line, rows);
-    if !lent.good {
-        return taken(false, held);
+    let why = lent.why;
+    if !is_fine(why) {
+        return taken(why, held);
     }
     let mut held = held;
     held.rows = lent.n;
-    taken(true, held)
+    taken(Why::Fine, held)
 }
 
 // Takes a line, if it asks to hold or to lend something.
@@ -108,7 +114,7 @@ pub fn keep(line: &[u8], held: Held, work: &mut [u8], rows: &mut [u8]) -> Kept
     let w = held.work;
     let r = held.rows;
     match request_in(line) {
-        Request::Nothing => taken(true, held),
+        Request::Nothing => taken(Why::Fine, held),
         Request::Design => hold(line, held),
         Request::Work => lend_work(line, held, work),
         Request::Rows => lend_rows(line, held, rows),
@@ -116,7 +122,7 @@ pub fn keep(line: &[u8], held: Held, work: &mut [u8], rows: &mut [u8]) -> Kept
         Request::Row => taken(poke(line, &mut rows[0..r]), held),
         Request::Other => Kept {
             other: true,
-            good: false,
+            why: Why::NoRequest,
             held,
         },
     }

@@ -1,4 +1,5 @@
 // What a line asks to be held or lent.
+use words::is_among;
 use words::request_among;
 
 pub enum Request {
@@ -27,4 +28,9 @@ pub fn request_in(line: &[u8]) -> Request {
         4 => Request::Row,
         _ => Request::Other,
     }
+}
+
+// Whether a line's first word is that of a request to hold or to lend something.
+pub fn is_kept(line: &[u8]) -> bool {
+    is_among(b"8design 3work 3poke 3rows 3row", line)
 }

@@ -2,7 +2,9 @@
 use check::same;
 use rules::Edit;
 use rules::Need;
+use words::Why;
 use words::count;
+use words::is_fine;
 use words::number_in;
 use words::numbers_in;
 use words::word;
@@ -11,17 +13,18 @@ use words::words;
 // An edit, if a line says one.
 pub enum Asked {
     Edit(Edit),
-    Bad,
+    Bad(Why),
 }
 
 // T, the word after `turn`.
 fn turn_in(line: &[u8]) -> Asked {
     if !same(word(line, 1), b"turn") {
-        return Asked::Bad;
+        return Asked::Bad(Why::NoRequest);
     }
     let position = number_in(word(line, 2));
-    if !position.good {
-        return Asked::Bad;
+    let why = position.why;
+    if !is_fine(why) {
+        return Asked::Bad(why);
     }
     Asked::Edit(Edit::Turn {
         position: position.n,
@@ -31,11 +34,12 @@ fn turn_in(line: &[u8]) -> Asked {
 // K CLBS RAMS MULTIPLIERS, the words after `need`.
 fn need_in(line: &[u8]) -> Asked {
     if !same(word(line, 1), b"need") {
-        return Asked::Bad;
+        return Asked::Bad(Why::NoRequest);
     }
     let mut said = [0usize; 4];
-    if !numbers_in(b' ', words(line, 2, 5), &mut said) {
-        return Asked::Bad;
+    let why = numbers_in(b' ', words(line, 2, 5), &mut said);
+    if !is_fine(why) {
+        return Asked::Bad(why);
     }
     let module = said[0];
     let need = Need {
@@ -51,6 +55,6 @@ pub fn edit_in(line: &[u8]) -> Asked {
     match count(line) {
         3 => turn_in(line),
         6 => need_in(line),
-        _ => Asked::Bad,
+        _ => Asked::Bad(Why::WrongCount),
     }
 }

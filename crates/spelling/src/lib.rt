@@ -16,6 +16,7 @@ use rules::Rows;
 pub use said::Said;
 pub use said::design_in;
 pub use told::put_design;
+pub use told::token_count;
 
 // How many numbers a need has, and how many all needs have.
 const NEED_NUMBERS: usize = 3;

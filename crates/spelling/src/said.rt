@@ -10,7 +10,9 @@ use rules::MOST_MODULES;
 use rules::MOST_TOKENS;
 use rules::Need;
 use rules::Rows;
+use words::Why;
 use words::bytes_in;
+use words::first_wrong;
 use words::number_in;
 use words::numbers_in;
 use words::word;
@@ -18,19 +20,19 @@ use words::words;
 
 // A design, if a line says one.
 pub struct Said {
-    pub good: bool,
+    pub why: Why,
     pub design: Design,
 }
 
 // A chip, if words say one.
 struct SaidChip {
-    good: bool,
+    why: Why,
     chip: Chip,
 }
 
 // Needs, if a word says such.
 struct SaidNeeds {
-    good: bool,
+    why: Why,
     needs: [Need; MOST_MODULES],
 }
 
@@ -56,9 +58,12 @@ fn needs_of(values: [usize; MOST_NUMBERS]) -> [Need; MOST_MODULES] {
 // NEEDS: numbers with commas between, or `-` for none; places that are not given are zero.
 fn needs_in(word: &[u8]) -> SaidNeeds {
     let mut values = [0usize; MOST_NUMBERS];
-    let good = same(word, b"-") || numbers_in(b',', word, &mut values);
+    let mut why = Why::Fine;
+    if !same(word, b"-") {
+        why = numbers_in(b',', word, &mut values);
+    }
     SaidNeeds {
-        good,
+        why,
         needs: needs_of(values),
     }
 }
@@ -75,8 +80,9 @@ fn chip_in(line: &[u8]) -> SaidChip {
         block: Rows(sizes[2]),
         kinds,
     };
+    let kinds_why = bytes.why;
     SaidChip {
-        good: numbers && bytes.good,
+        why: first_wrong(numbers, kinds_why),
         chip,
     }
 }
@@ -90,8 +96,14 @@ pub fn design_in(line: &[u8]) -> Said {
     let needs = needs_said.needs;
     let mut tokens = [0u8; MOST_TOKENS];
     let bytes = bytes_in(word(line, 7), &mut tokens);
+    let chip_why = chip_said.why;
+    let modules_why = modules.why;
+    let needs_why = needs_said.why;
+    let tokens_why = bytes.why;
+    let front = first_wrong(chip_why, modules_why);
+    let back = first_wrong(needs_why, tokens_why);
     Said {
-        good: chip_said.good && modules.good && needs_said.good && bytes.good,
+        why: first_wrong(front, back),
         design: Design {
             chip,
             modules: modules.n,

@@ -1,5 +1,7 @@
 // Bytes in hexadecimal, two digits each, in lower case.
 use crate::numbers::Number;
+use crate::numbers::no_number;
+use crate::why::Why;
 use check::same;
 ghost use Prim.Native.Nat.{_*_, _≤_};
 ghost use lib.ListN.{length};
@@ -19,35 +21,37 @@ fn digit(b: u8) -> u8
 }
 
 // How many bytes a word says by its length, if there are places for them: `-` is none.
-fn count_in(word: &[u8], places: usize) -> Number
+pub fn count_in(word: &[u8], places: usize) -> Number
     ensures { λ r. ⌜ (r .n ≤ places) × (2 * r .n ≤ length (now (word .entry))) ⌝ }
 {
     if same(word, b"-") {
-        return Number { good: true, n: 0 };
+        return Number {
+            why: Why::Fine,
+            n: 0,
+        };
     }
-    let bad = Number { good: false, n: 0 };
     let n = word.len() / 2;
     if n == 0 {
-        return bad;
+        return no_number(Why::NoBytes);
+    }
+    if word.len() % 2 != 0 {
+        return no_number(Why::NoBytes);
     }
     if n > places {
-        return bad;
+        return no_number(Why::NoRoom);
     }
-    Number {
-        good: word.len() % 2 == 0,
-        n,
-    }
+    Number { why: Why::Fine, n }
 }
 
 // Puts the bytes that a word says into places, and says how many, if it says bytes and they have one.
 pub fn bytes_in(word: &[u8], places: &mut [u8]) -> Number
     ensures { λ r. ⌜ r .n ≤ length (now (places .entry)) ⌝ }
 {
-    let bad = Number { good: false, n: 0 };
+    let bad = Number {
+        why: Why::NoBytes,
+        n: 0,
+    };
     let count = count_in(word, places.len());
-    if !count.good {
-        return bad;
-    }
     for i in 0..count.n {
         let high = digit(word[2 * i]);
         let low = digit(word[2 * i + 1]);

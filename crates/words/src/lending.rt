@@ -1,10 +1,12 @@
 // Bytes that are lent as a line's words say.
 use crate::bytes::bytes_in;
+use crate::bytes::count_in;
 use crate::numbers::Number;
-use crate::numbers::number_in;
-use crate::numbers::numbers_in;
+use crate::numbers::no_number;
+use crate::numbers::number_to;
+use crate::why::Why;
+use crate::why::is_fine;
 use crate::word;
-use crate::words;
 ghost use Prim.Native.Nat.{_≤_};
 ghost use lib.ListN.{length};
 
@@ -24,38 +26,42 @@ fn fill(bytes: &mut [u8], b: u8) {
 pub fn lend(line: &[u8], room: &mut [u8]) -> Number
     ensures { λ r. ⌜ r .n ≤ length (now (room .entry)) ⌝ }
 {
-    let bad = Number { good: false, n: 0 };
-    let mut said = [0usize; 2];
-    if !numbers_in(b' ', words(line, 1, 2), &mut said) {
-        return bad;
+    let count = number_to(room.len(), word(line, 1));
+    let why = count.why;
+    if !is_fine(why) {
+        return no_number(why);
     }
-    let n = said[0];
-    let f = said[1];
-    if n > room.len() {
-        return bad;
+    let with = number_to(MOST_BYTE, word(line, 2));
+    let why = with.why;
+    if !is_fine(why) {
+        return no_number(why);
     }
-    if f > MOST_BYTE {
-        return bad;
-    }
-    fill(&mut room[0..n], f as u8);
-    Number { good: true, n }
+    let n = count.n;
+    fill(&mut room[0..n], with.n as u8);
+    count
 }
 
 // `A BYTES` after a line's first word: puts the bytes at A, and says whether there are so many; else they stay, so the word is
 // tried elsewhere first.
-pub fn poke(line: &[u8], lent: &mut [u8]) -> bool {
-    let from = number_in(word(line, 1));
+pub fn poke(line: &[u8], lent: &mut [u8]) -> Why {
+    let from = number_to(lent.len(), word(line, 1));
+    let why = from.why;
+    if !is_fine(why) {
+        return why;
+    }
     let at = from.n;
-    if !from.good {
-        return false;
-    }
-    if at > lent.len() {
-        return false;
-    }
     let said = word(line, 2);
-    let mut tried = [0u8; MOST_SAID];
-    if !bytes_in(said, &mut tried).good {
-        return false;
+    let count = count_in(said, lent.len() - at);
+    let why = count.why;
+    if !is_fine(why) {
+        return why;
     }
-    bytes_in(said, &mut lent[at..]).good
+    let mut tried = [0u8; MOST_SAID];
+    let trial = bytes_in(said, &mut tried);
+    let why = trial.why;
+    if !is_fine(why) {
+        return why;
+    }
+    let put = bytes_in(said, &mut lent[at..]);
+    put.why
 }

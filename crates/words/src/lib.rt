@@ -2,6 +2,7 @@
 mod bytes;
 mod lending;
 mod numbers;
+mod why;
 
 pub use bytes::bytes_in;
 use check::same;
@@ -11,6 +12,9 @@ pub use lending::poke;
 pub use numbers::Number;
 pub use numbers::number_in;
 pub use numbers::numbers_in;
+pub use why::Why;
+pub use why::first_wrong;
+pub use why::is_fine;
 ghost use Prim.Native.Nat.{_≤_};
 ghost use lib.ListN.{length};
 
@@ -88,4 +92,15 @@ pub fn request_among(requests: &[u8], line: &[u8]) -> usize {
         }
     }
     n
+}
+
+// Whether a line's first word is that of one of these requests.
+pub fn is_among(requests: &[u8], line: &[u8]) -> bool {
+    for k in 0..count(requests) {
+        let request = word(requests, k);
+        if request.len() > 0 && same(&request[1..], word(line, 0)) {
+            return true;
+        }
+    }
+    false
 }

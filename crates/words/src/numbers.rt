@@ -1,18 +1,31 @@
 // Numbers in decimal.
 use crate::next_of;
+use crate::why::Why;
+use crate::why::is_fine;
+ghost use Prim.Native.Nat.{_≤_};
 
 // A number has at most so many digits.
 const MOST_DIGITS: usize = 18;
 
-// A number, if words say one.
+// A number, if words say one, and else 0.
 pub struct Number {
-    pub good: bool,
+    pub why: Why,
     pub n: usize,
+}
+
+// Words that say none.
+pub fn no_number(why: Why) -> Number
+    ensures { λ r. ⌜ r .n ≤ 0 ⌝ }
+{
+    Number { why, n: 0 }
 }
 
 // A decimal number in a word.
 pub fn number_in(word: &[u8]) -> Number {
-    let bad = Number { good: false, n: 0 };
+    let bad = Number {
+        why: Why::NoNumber,
+        n: 0,
+    };
     let digits = word.len();
     if digits == 0 {
         return bad;
@@ -31,23 +44,35 @@ pub fn number_in(word: &[u8]) -> Number {
         }
         n = 10 * n + (b - b'0') as usize;
     }
-    Number { good: true, n }
+    Number { why: Why::Fine, n }
 }
 
-// Puts numbers that such a byte parts into places, and says whether all are numbers and have one; the other places stay.
-pub fn numbers_in(parting: u8, s: &[u8], places: &mut [usize]) -> bool {
+// A number in a word that is at most so much.
+pub fn number_to(most: usize, word: &[u8]) -> Number
+    ensures { λ r. ⌜ r .n ≤ most ⌝ }
+{
+    let said = number_in(word);
+    if said.n > most {
+        return no_number(Why::NoRoom);
+    }
+    said
+}
+
+// Puts numbers that such a byte parts into places, and says whether each is a number and has one; the other places stay.
+pub fn numbers_in(parting: u8, s: &[u8], places: &mut [usize]) -> Why {
     let mut from = 0;
     for i in 0..places.len() {
         let to = next_of(parting, s, from);
         let said = number_in(&s[from..to]);
-        if !said.good {
-            return false;
+        let why = said.why;
+        if !is_fine(why) {
+            return why;
         }
         places[i] = said.n;
         if to == s.len() {
-            return true;
+            return Why::Fine;
         }
         from = to + 1;
     }
-    false
+    Why::NoRoom
 }

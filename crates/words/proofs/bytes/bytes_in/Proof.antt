@@ -16,9 +16,6 @@ abbrev μ-loop : tie.MeasureT-loop
 count-in-requires : tie.Need-count-in-requires Inv-loop μ-loop
 count-in-requires c κs = search needs
 
-returns : tie.Need-returns Inv-loop μ-loop
-returns c = search needs
-
 loop-holds : tie.Need-loop-holds Inv-loop μ-loop
 loop-holds c = search needs
 
@@ -46,14 +43,14 @@ digit-requires-2 c κs = search needs
 same-length : tie.Need-same-length Inv-loop μ-loop
 same-length c = search needs
 
-returns-2 : tie.Need-returns-2 Inv-loop μ-loop
-returns-2 c = search needs
+returns : tie.Need-returns Inv-loop μ-loop
+returns c = search needs
 
 same-length-2 : tie.Need-same-length-2 Inv-loop μ-loop
 same-length-2 c = search needs
 
-returns-3 : tie.Need-returns-3 Inv-loop μ-loop
-returns-3 c = search needs
+returns-2 : tie.Need-returns-2 Inv-loop μ-loop
+returns-2 c = search needs
 
 mul-places : tie.Need-mul-places Inv-loop μ-loop
 mul-places c = search needs
@@ -76,8 +73,8 @@ loop-again c = search needs
 same-length-3 : tie.Need-same-length-3 Inv-loop μ-loop
 same-length-3 c = search needs
 
-returns-4 : tie.Need-returns-4 Inv-loop μ-loop
-returns-4 c = search needs
+returns-3 : tie.Need-returns-3 Inv-loop μ-loop
+returns-3 c = search needs
 
 pub bytes-in-spec : {M : Type 1} → statement M
 bytes-in-spec =
@@ -86,7 +83,6 @@ bytes-in-spec =
     Inv-loop
     μ-loop
     count-in-requires
-    returns
     loop-holds
     mul-digit
     shared-slice-read-digit
@@ -96,9 +92,9 @@ bytes-in-spec =
     shared-slice-read-digit-2
     digit-requires-2
     same-length
-    returns-2
+    returns
     same-length-2
-    returns-3
+    returns-2
     mul-places
     add-places
     slice-write-places
@@ -106,4 +102,4 @@ bytes-in-spec =
     loop-less
     loop-again
     same-length-3
-    returns-4)
+    returns-3)

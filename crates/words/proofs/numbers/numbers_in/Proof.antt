@@ -30,6 +30,9 @@ part-number-in-end c = search needs
 number-in-requires : tie.Need-number-in-requires Inv-loop μ-loop
 number-in-requires c κs = search needs
 
+is-fine-requires : tie.Need-is-fine-requires Inv-loop μ-loop
+is-fine-requires c κs = search needs
+
 same-length : tie.Need-same-length Inv-loop μ-loop
 same-length c = search needs
 
@@ -78,6 +81,7 @@ numbers-in-spec =
     part-number-in-start
     part-number-in-end
     number-in-requires
+    is-fine-requires
     same-length
     returns
     mul-places
