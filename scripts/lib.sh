@@ -82,7 +82,7 @@ make() { # NAME FILE RT-WORDS..
     # rt takes what it has proved once as built, also where the file is gone
     [ -f "$product" ] || rm -f "$root/target/stamp/$name"
     all=$(count_crates "$name")
-    tell "proving and building $name, $all crates: some minutes the first time, seconds where little changed"
+    tell "proving and building $name, $all crates: about $(((all * 8 + 59) / 60)) minutes the first time on two processors, less where little changed"
     tell "all that rt says goes to ${log#"$root"/}"
     if ! { cd "$root" && rt "$@" 2>&1 </dev/null && echo 'status 0' || echo 'status 1'; } | follow "$log" "$all"; then
         tell "$name is not built; the end of ${log#"$root"/}:"
@@ -134,16 +134,20 @@ install() { # FOLDER PACKAGE..
     as_root apt-get install -y --no-install-recommends "$@" >"$install_log" 2>&1 || { tail "$install_log" >&2; die "not installed: $*"; }
 }
 
+# What a compiler needs, installed where it is missing.
+need_compiler() { # FOLDER
+    ! links "$1" || return 0
+    refresh "$1"
+    # shellcheck disable=SC2046 # words
+    install "$1" $(compiler_packages)
+}
+
 # ---- the planner over the library, which lends a design all the work that it wants: the plan program has 65,536 bytes
 make_large() {
     large_folder=$root/target/large
     mkdir -p "$large_folder"
     make_library || return 2
-    if ! links "$large_folder"; then
-        refresh "$large_folder"
-        # shellcheck disable=SC2046 # words
-        install "$large_folder" $(compiler_packages)
-    fi
+    need_compiler "$large_folder"
     "$cc" -std=c11 -O2 -static -I"$root/include" -o "$large_folder/plan" "$root/examples/plan.c" "$root/target/staticlib/libcellweaver_c.a" >&2
 }
 run_large() { # FILE
