@@ -51,7 +51,7 @@ count_crates() {
         }
         { sub(/#.*/, "") }
         split($0, part, ":") == 2 { needs[part[1]] = part[2] }
-        END { visit(name); print count }' "$root/crates.txt"
+        END { visit(name); print count + 0 }' "$root/crates.txt"
 }
 
 # Keeps all that rt says in a log, and tells of each crate that it has proved. Its last line is the status of rt.
