@@ -1,5 +1,6 @@
 //! Plans a design from Rust: `plan FILE` prints what the plan program prints: `plan 0 W H`, the box, and a line `k x y w h` for
-//! each module, or a refusal, `plan N P`. The exit status is 0 done, 1 refused, 2 could not read or write.
+//! each module, or a refusal, `plan N P`. The exit status is 0 done, 1 refused, 2 could not read or write. (A closed output is
+//! not seen here: Rust's library opens /dev/null in its place.)
 
 use std::env;
 use std::fs::File;

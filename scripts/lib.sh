@@ -59,15 +59,18 @@ follow() { # LOG COUNT
     : >"$1"
     proved=0 status=2
     while IFS= read -r line; do
-        printf '%s\n' "$line" >>"$1"
         case $line in
         'rt: '*' proved (unchanged'*) proved=$((proved + 1)) ;;
         'rt: '*' proved ('*)
             proved=$((proved + 1)) crate=${line#rt: }
             tell "$proved of $2 proved: ${crate%% *}"
             ;;
-        'status '*) status=${line#status } ;;
+        'status '*)
+            status=${line#status }
+            continue
+            ;;
         esac
+        printf '%s\n' "$line" >>"$1"
     done
     return "$status"
 }
