@@ -19,26 +19,26 @@ struct Tried {
 }
 
 // Reads once. errno tells an interrupted read from one that failed, so it is asked just after.
-fn try_read(room: &mut [u8]) -> Tried
-    ensures { λ r. ⌜ r .count ≤ length (now (room .exit)) ⌝ }
+fn try_read(buffer: &mut [u8]) -> Tried
+    ensures { λ r. ⌜ r .count ≤ length (now (buffer .exit)) ⌝ }
 {
-    let got = libc::read(STDIN_FILENO, room);
+    let got = libc::read(STDIN_FILENO, buffer);
     let failed = got < 0;
     let again = failed && os::errno() == EINTR;
     Tried {
         again,
         failed,
-        count: io::count(got, room),
+        count: io::count(got, buffer),
     }
 }
 
-// Reads some bytes to the front of the room. A proved loop has to end, so the turns are counted, to a number that no run
+// Reads some bytes to the front of the buffer. A proved loop has to end, so the turns are counted, to a number that no run
 // reaches.
-pub fn take_some(room: &mut [u8]) -> Taken
-    ensures { λ r. ⌜ r .count ≤ length (now (room .exit)) ⌝ }
+pub fn take_some(buffer: &mut [u8]) -> Taken
+    ensures { λ r. ⌜ r .count ≤ length (now (buffer .exit)) ⌝ }
 {
     for _ in 0..usize::MAX {
-        let tried = try_read(room);
+        let tried = try_read(buffer);
         if !tried.again {
             return Taken {
                 count: tried.count,
@@ -52,13 +52,13 @@ pub fn take_some(room: &mut [u8]) -> Taken
     }
 }
 
-// Reads until the room is full or the input ends.
-pub fn take_all(room: &mut [u8]) -> Taken
-    ensures { λ r. ⌜ r .count ≤ length (now (room .exit)) ⌝ }
+// Reads until the buffer is full or the input ends.
+pub fn take_all(buffer: &mut [u8]) -> Taken
+    ensures { λ r. ⌜ r .count ≤ length (now (buffer .exit)) ⌝ }
 {
     let mut count = 0;
-    while count < room.len() {
-        let taken = take_some(&mut room[count..]);
+    while count < buffer.len() {
+        let taken = take_some(&mut buffer[count..]);
         let more = taken.count;
         if more == 0 {
             return Taken {

@@ -1,4 +1,4 @@
--- What was read stands inside the room, which keeps its number of bytes. The measure is how many bytes have room. Assumes nothing.
+-- What was read stands inside the buffer, which keeps its number of bytes. The measure is how many bytes are free. Assumes nothing.
 use mathlib.Core.Path.{_≡_}
 use Prim.Native.Nat.{_-_, _≤_}
 use lib.ListN.{length}
@@ -7,10 +7,10 @@ use Rattle.taking.proofs.take_all.Statement.{statement}
 use Rattle.taking.proofs.take_all.Tie as tie
 
 abbrev Inv-loop : tie.InvT-loop
-Inv-loop room₀ count₀ room count = (length room ≡ length room₀) × (count ≤ length room)
+Inv-loop buffer₀ count₀ buffer count = (length buffer ≡ length buffer₀) × (count ≤ length buffer)
 
 abbrev μ-loop : tie.MeasureT-loop
-μ-loop room₀ count₀ room count = length room - count
+μ-loop buffer₀ count₀ buffer count = length buffer - count
 
 loop-holds : tie.Need-loop-holds Inv-loop μ-loop
 loop-holds c = search needs

@@ -1,4 +1,4 @@
--- The room keeps its number of bytes from turn to turn. The measure is how many turns are left. Assumes nothing.
+-- The buffer keeps its number of bytes from turn to turn. The measure is how many turns are left. Assumes nothing.
 use mathlib.Core.Path.{_≡_}
 use Prim.Native.Nat.{_-_, _≤_}
 use lib.ListN.{length}
@@ -7,10 +7,10 @@ use Rattle.taking.proofs.take_some.Statement.{statement}
 use Rattle.taking.proofs.take_some.Tie as tie
 
 abbrev Inv-loop : tie.InvT-loop
-Inv-loop room₀ counter₀ room counter = (length room ≡ length room₀) × (counter ≤ 18446744073709551615)
+Inv-loop buffer₀ counter₀ buffer counter = (length buffer ≡ length buffer₀) × (counter ≤ 18446744073709551615)
 
 abbrev μ-loop : tie.MeasureT-loop
-μ-loop room₀ counter₀ room counter = 18446744073709551615 - counter
+μ-loop buffer₀ counter₀ buffer counter = 18446744073709551615 - counter
 
 loop-holds : tie.Need-loop-holds Inv-loop μ-loop
 loop-holds c = search needs
