@@ -1,0 +1,176 @@
+// The sheet around the chip: where it begins and ends, its title, and the axes.
+use crate::elements::draw_number;
+use crate::elements::draw_words;
+use crate::elements::end_text;
+use crate::elements::start_text;
+use crate::places::CELL;
+use crate::places::LEFT;
+use crate::places::TOP;
+use crate::places::column_left;
+use crate::places::rows_top;
+use crate::places::sheet_width;
+use blocks::kind_at;
+use describing::letter_of;
+use describing::put_amount;
+use pen::Pen;
+use pen::put_attribute;
+use pen::put_figure;
+use pen::write;
+use pen::write_words;
+use rules::Chip;
+use rules::Columns;
+use rules::Rows;
+use rules::Shape;
+use telling::put_byte;
+use telling::put_word;
+ghost use Prim.Native.Nat.{_≤_, _<_};
+ghost use Rattle.rules.specs.Design.{mostColumns, mostRows};
+ghost use Rattle.blocks.specs.Cut.{Within};
+
+// The patterns of CLBs, a cell each from the chip's corner on, and of what a region has of a block that it cuts.
+fn draw_patterns(pen: Pen, line: &mut [u8]) -> Pen {
+    let at = put_word(
+        line,
+        0,
+        b"<pattern id=\"clb\" patternUnits=\"userSpaceOnUse\"",
+    );
+    let at = put_attribute(line, at, b" x=", LEFT);
+    let at = put_attribute(line, at, b" y=", TOP);
+    let at = put_attribute(line, at, b" width=", CELL);
+    let at = put_attribute(line, at, b" height=", CELL);
+    let at = put_word(line, at, b"><rect");
+    let at = put_attribute(line, at, b" width=", CELL);
+    let at = put_attribute(line, at, b" height=", CELL);
+    let at = put_word(
+        line,
+        at,
+        b" fill=\"#f1f4ee\" stroke=\"#c3cabd\"/></pattern>\n",
+    );
+    let pen = write(pen, line, at);
+    let at = put_word(
+        line,
+        0,
+        b"<pattern id=\"cut\" patternUnits=\"userSpaceOnUse\" width=\"7\" height=\"7\"",
+    );
+    let at = put_word(
+        line,
+        at,
+        b" patternTransform=\"rotate(45)\"><rect width=\"7\" height=\"7\" fill=\"#ffffff\"/>",
+    );
+    let at = put_word(
+        line,
+        at,
+        b"<rect width=\"3\" height=\"7\" fill=\"#c00020\"/></pattern>\n",
+    );
+    write(pen, line, at)
+}
+
+// Starts a sheet that goes down to `bottom`.
+pub fn start_sheet(pen: Pen, line: &mut [u8], width: Columns, bottom: usize) -> Pen
+    requires { ⌜ width .0 ≤ mostColumns ⌝ }
+{
+    let wide = sheet_width(width);
+    let at = put_word(line, 0, b"<svg xmlns=\"http://www.w3.org/2000/svg\"");
+    let at = put_attribute(line, at, b" width=", wide);
+    let at = put_attribute(line, at, b" height=", bottom);
+    let at = put_word(line, at, b" viewBox=\"0 0 ");
+    let at = put_figure(line, at, wide);
+    let at = put_byte(line, at, b' ');
+    let at = put_figure(line, at, bottom);
+    let at = put_word(
+        line,
+        at,
+        b"\" font-family=\"Helvetica, Arial, sans-serif\" font-size=\"13\" fill=\"#222222\">\n",
+    );
+    let pen = write(pen, line, at);
+    let pen = draw_patterns(pen, line);
+    write_words(
+        pen,
+        line,
+        b"<rect width=\"100%\" height=\"100%\" fill=\"#ffffff\"/>\n",
+    )
+}
+
+// Ends the sheet. A reader sees by it that the drawing is whole.
+pub fn end_sheet(pen: Pen, line: &mut [u8]) -> Pen {
+    write_words(pen, line, b"</svg>\n")
+}
+
+// How many modules, and how large the chip, its blocks and the box are.
+pub fn draw_titles(pen: Pen, line: &mut [u8], chip: Chip, modules: usize, size: Shape) -> Pen {
+    let at = put_word(
+        line,
+        0,
+        b"<text x=\"24\" y=\"32\" font-size=\"18\" font-weight=\"bold\">Floorplan of",
+    );
+    let at = put_amount(line, at, modules, b"module");
+    let pen = end_text(pen, line, at);
+    let at = start_text(line, 24, 54);
+    let at = put_word(line, at, b"Chip:");
+    let at = put_amount(line, at, chip.width.0, b"column");
+    let at = put_byte(line, at, b',');
+    let at = put_amount(line, at, chip.height.0, b"row");
+    let at = put_word(line, at, b"; blocks");
+    let at = put_amount(line, at, chip.block.0, b"row");
+    let at = put_word(line, at, b" high. Box:");
+    let at = put_amount(line, at, size.w.0, b"column");
+    let at = put_byte(line, at, b',');
+    let at = put_amount(line, at, size.h.0, b"row");
+    let at = put_byte(line, at, b'.');
+    end_text(pen, line, at)
+}
+
+// The number and the kind of column x, below the chip.
+fn draw_column_number(pen: Pen, line: &mut [u8], chip: Chip, x: usize) -> Pen
+    requires { ⌜ Within chip × (x < mostColumns) ⌝ }
+{
+    let middle = column_left(x) + CELL / 2;
+    let below = rows_top(chip.height, 0);
+    let pen = draw_number(pen, line, middle, below + 20, x);
+    let at = start_text(line, middle, below + 37);
+    let at = put_byte(line, at, letter_of(kind_at(chip, x)));
+    end_text(pen, line, at)
+}
+
+// The numbers and the kinds of the columns.
+fn draw_column_numbers(pen: Pen, line: &mut [u8], chip: Chip) -> Pen
+    requires { ⌜ Within chip ⌝ }
+{
+    let width = chip.width.0;
+    let mut pen = pen;
+    for x in 0..width {
+        pen = draw_column_number(pen, line, chip, x);
+    }
+    pen
+}
+
+// The numbers of the rows, at the left.
+fn draw_row_numbers(pen: Pen, line: &mut [u8], height: Rows) -> Pen
+    requires { ⌜ height .0 ≤ mostRows ⌝ }
+{
+    let rows = height.0;
+    let mut pen = pen;
+    for y in 0..rows {
+        pen = draw_number(pen, line, LEFT - 10, rows_top(height, y) - 10, y);
+    }
+    pen
+}
+
+// The axes: rows at the left, columns and their kinds below.
+pub fn draw_axes(pen: Pen, line: &mut [u8], chip: Chip) -> Pen
+    requires { ⌜ Within chip ⌝ }
+{
+    let below = rows_top(chip.height, 0);
+    let pen = write_words(pen, line, b"<g font-size=\"11\" text-anchor=\"end\">\n");
+    let pen = draw_words(pen, line, LEFT - 10, TOP - 8, b"row");
+    let pen = draw_row_numbers(pen, line, chip.height);
+    let pen = draw_words(pen, line, LEFT - 10, below + 20, b"column");
+    let pen = draw_words(pen, line, LEFT - 10, below + 37, b"kind");
+    let pen = write_words(
+        pen,
+        line,
+        b"</g>\n<g font-size=\"11\" text-anchor=\"middle\">\n",
+    );
+    let pen = draw_column_numbers(pen, line, chip);
+    write_words(pen, line, b"</g>\n")
+}

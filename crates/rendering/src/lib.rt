@@ -1,0 +1,54 @@
+// A floorplan as an SVG drawing: the chip's columns and blocks, the regions over them, the box, and what is said of each region.
+mod chip;
+mod elements;
+mod frame;
+mod legend;
+mod places;
+mod regions;
+
+use chip::draw_chip;
+use describing::say_regions;
+use frame::draw_axes;
+use frame::draw_titles;
+use frame::end_sheet;
+use frame::start_sheet;
+use legend::draw_legend;
+use pen::Pen;
+use places::words_top;
+use regions::draw_box;
+use regions::draw_regions;
+use rules::Design;
+use rules::Shape;
+ghost use Prim.Native.Nat.{_≤_};
+ghost use Rattle.rules.specs.Design.{mostColumns, mostRows};
+ghost use Rattle.blocks.specs.Drawable.{Drawable};
+
+// A pen at a height; a dry one only measures.
+fn pen_at(y: usize, dry: bool) -> Pen {
+    Pen {
+        svg: true,
+        dry,
+        y,
+        cuts: 0,
+        fine: true,
+    }
+}
+
+// Writes a floorplan as an SVG drawing, and says whether every line was written.
+pub fn render(line: &mut [u8], design: Design, rows: &[u8], size: Shape) -> bool
+    requires { ⌜ Drawable design (now rows) × (size .w .0 ≤ mostColumns) × (size .h .0 ≤ mostRows) ⌝ }
+{
+    let chip = design.chip;
+    let modules = design.modules;
+    let top = words_top(chip.height);
+    let measured = say_regions(pen_at(top, true), line, design, rows);
+    let pen = start_sheet(pen_at(top, false), line, chip.width, measured.y);
+    let pen = draw_titles(pen, line, chip, modules, size);
+    let pen = draw_chip(pen, line, chip);
+    let pen = draw_axes(pen, line, chip);
+    let pen = draw_regions(pen, line, design, rows);
+    let pen = draw_box(pen, line, chip.height, size);
+    let pen = draw_legend(pen, line, chip.width);
+    let pen = say_regions(pen, line, design, rows);
+    end_sheet(pen, line).fine
+}
