@@ -1,6 +1,5 @@
 -- `blocks::held` meets its contract: the loop goes through the numbers below its bound. Assumes nothing.
 use Prim.Native.Nat.{_-_, _≤_}
-use native.Mathlib.Omega.{arith}
 use borrow.Author.Needs.{needs}
 use Rattle.blocks.proofs.held.Statement.{statement}
 use Rattle.blocks.proofs.held.Tie as tie
@@ -12,22 +11,22 @@ abbrev μ-loop : tie.MeasureT-loop
 μ-loop chip r width held₀ x₀ held x = width - x
 
 loop-holds : tie.Need-loop-holds Inv-loop μ-loop
-loop-holds c = x ≤ width
+loop-holds c = search needs
 
 with-column-requires : tie.Need-with-column-requires Inv-loop μ-loop
-with-column-requires c κs = x ≤ width
+with-column-requires c κs = search needs
 
 add-x : tie.Need-add-x Inv-loop μ-loop
-add-x c = x ≤ width
+add-x c = search needs
 
 loop-less : tie.Need-loop-less Inv-loop μ-loop
-loop-less c = x ≤ width
+loop-less c = search needs
 
 loop-again : tie.Need-loop-again Inv-loop μ-loop
-loop-again c = x ≤ width
+loop-again c = search needs
 
 returns : tie.Need-returns Inv-loop μ-loop
-returns c = x ≤ width
+returns c = search needs
 
 pub held-spec : {M : Type 1} → statement M
 held-spec =
