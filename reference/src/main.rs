@@ -4,7 +4,8 @@
 //! `reference random SEED COUNT` the services on random designs against the definitions,
 //! `reference plan` the plan program on standard input, and `reference ask` answers requests;
 //! `reference requests FILE` makes requests of stored cases; `reference cases` is the plan program on
-//! many inputs, each with its length in two bytes before it.
+//! many inputs, each with its length in two bytes before it. `reference draw` is the draw program,
+//! and `reference drawings` the same on many inputs.
 
 mod ask;
 mod bytes;
@@ -12,6 +13,7 @@ mod check;
 mod chip;
 mod choice;
 mod design;
+mod draw;
 mod edit;
 mod examples;
 mod json;
@@ -35,7 +37,9 @@ const USAGE: &str = "usage: reference vectors FOLDER
        reference plan < FILE
        reference ask < REQUESTS
        reference requests FILE
-       reference cases < INPUTS";
+       reference cases < INPUTS
+       reference draw < INPUT
+       reference drawings < INPUTS";
 
 fn main() -> ExitCode {
     let arguments: Vec<String> = env::args().skip(1).collect();
@@ -46,7 +50,9 @@ fn main() -> ExitCode {
         ["random", seed, count] => random_designs(seed, count),
         ["plan"] => plan_standard_input(),
         ["ask"] => ask_standard_input(),
-        ["cases"] => plan_cases(),
+        ["cases"] => cases(program::plan_program),
+        ["draw"] => draw_standard_input(),
+        ["drawings"] => cases(draw::draw_program),
         ["requests", file] => ask::requests(Path::new(file)).map(|text| {
             print!("{text}");
             true
@@ -79,16 +85,24 @@ fn plan_standard_input() -> Result<bool, String> {
     Ok(true)
 }
 
-fn plan_cases() -> Result<bool, String> {
+fn cases(program: fn(&[u8]) -> String) -> Result<bool, String> {
     let mut input = Vec::new();
     let mut stdin = io::stdin().lock();
     stdin.read_to_end(&mut input).map_err(|e| e.to_string())?;
     let mut rest = &input[..];
     while let [low, high, after @ ..] = rest {
         let long = (usize::from(*low) + 256 * usize::from(*high)).min(after.len());
-        print!("{}", program::plan_program(&after[..long]));
+        print!("{}", program(&after[..long]));
         rest = &after[long..];
     }
+    Ok(true)
+}
+
+fn draw_standard_input() -> Result<bool, String> {
+    let mut input = Vec::new();
+    let mut stdin = io::stdin().lock();
+    stdin.read_to_end(&mut input).map_err(|e| e.to_string())?;
+    print!("{}", draw::draw_program(&input));
     Ok(true)
 }
 

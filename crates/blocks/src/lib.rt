@@ -32,7 +32,7 @@ pub fn kind_at(chip: Chip, x: usize) -> u8
 }
 
 // How many blocks a column of this kind has. In a CLB column each row is a block, a CLB.
-pub fn many_of(chip: Chip, kind: u8) -> usize
+fn many_of(chip: Chip, kind: u8) -> usize
     requires { ⌜ Within chip ⌝ }
     ensures { λ r. ⌜ (r ≡ columnOf chip kind .many) × (r ≤ mostRows) ⌝ }
 {
@@ -40,6 +40,14 @@ pub fn many_of(chip: Chip, kind: u8) -> usize
         return chip.height.0;
     }
     chip.height.0 / chip.block.0
+}
+
+// How many blocks column x has.
+pub fn many_at(chip: Chip, x: usize) -> usize
+    requires { ⌜ Within chip × (x < mostColumns) ⌝ }
+    ensures { λ r. ⌜ (r ≡ column chip x .many) × (r ≤ mostRows) ⌝ }
+{
+    many_of(chip, kind_at(chip, x))
 }
 
 // How high the blocks of such a column are.
@@ -139,7 +147,7 @@ pub fn held_in(chip: Chip, x: usize, r: Rectangle) -> usize
     requires { ⌜ Within chip × (x < mostColumns) × Bytes r ⌝ }
     ensures { λ n. ⌜ n ≡ count (column chip x .many) (coversBlock (column chip x) (bottom r) (top r)) ⌝ }
 {
-    let many = many_of(chip, kind_at(chip, x));
+    let many = many_at(chip, x);
     let mut held = 0;
     for j in 0..many {
         held = counted(held, covers(r, block_at(chip, x, j)));

@@ -9,6 +9,7 @@ ghost use mathlib.Core.Path.{_≡_};
 ghost use Prim.Native.Nat.{_*_, _≤_, _<_};
 ghost use lib.ListN.{length};
 ghost use Rattle.rules.specs.Design.{mostRows};
+ghost use Rattle.rules.proofs.Limits.{NeedLimits};
 ghost use Rattle.rows.specs.Row.{Bytes};
 
 // Puts how many there are of a thing, a space before it: ` 1 RAM`, ` 2 RAMs`.
@@ -71,7 +72,7 @@ pub fn cells_of(r: Rectangle) -> usize
 
 // How many of so many cells nothing needs: a CLB takes one, and a block as many as it is high.
 pub fn idle_cells(block: Rows, cells: usize, need: Need) -> usize
-    requires { ⌜ (block .0 ≤ mostRows) × (need .clbs ≤ 65535) × (need .rams ≤ 65535) × (need .multipliers ≤ 65535) ⌝ }
+    requires { ⌜ (block .0 ≤ mostRows) × NeedLimits need ⌝ }
 {
     let taken = need.clbs + product(block.0, need.rams + need.multipliers);
     if taken < cells { cells - taken } else { 0 }

@@ -5,7 +5,7 @@ use blocks::block_at;
 use blocks::common_rows;
 use blocks::cuts;
 use blocks::kind_at;
-use blocks::many_of;
+use blocks::many_at;
 use blocks::meets;
 use pen::Pen;
 use pen::finish;
@@ -43,21 +43,37 @@ fn put_kind(out: &mut [u8], at: usize, kind: u8) -> usize
     }
 }
 
+// Puts which block it is.
+fn put_block(out: &mut [u8], at: usize, kind: u8, block: Rectangle) -> usize
+    requires { ⌜ (at ≤ length (now out)) × Bytes block ⌝ }
+    ensures { λ r. ⌜ r ≤ length (now (out .exit)) ⌝ }
+{
+    let low = block.corner.y.0;
+    let far = low + block.shape.h.0;
+    let next = put_kind(out, at, kind);
+    let next = put_word(out, next, b" block in column");
+    let next = put_number(out, next, b' ', block.corner.x.0);
+    put_span(out, next, b", row", low, far)
+}
+
+// Puts that a region cuts a block.
+fn put_cut(out: &mut [u8], at: usize, r: Rectangle, kind: u8, block: Rectangle) -> usize
+    requires { ⌜ (at ≤ length (now out)) × Bytes r × Bytes block ⌝ }
+    ensures { λ n. ⌜ n ≤ length (now (out .exit)) ⌝ }
+{
+    let next = put_word(out, at, b"cuts the ");
+    let next = put_block(out, next, kind, block);
+    let next = put_word(out, next, b": has");
+    let next = put_rows_of(out, next, r, block);
+    put_word(out, next, b", and the block is not counted")
+}
+
 // Says that a region cuts a block.
 fn say_cut(pen: Pen, line: &mut [u8], r: Rectangle, kind: u8, block: Rectangle) -> Pen
     requires { ⌜ Bytes r × Bytes block ⌝ }
 {
     let at = start_words(pen, line);
-    let at = put_word(line, at, b"cuts the ");
-    let at = put_kind(line, at, kind);
-    let at = put_word(line, at, b" block in column");
-    let at = put_number(line, at, b' ', block.corner.x.0);
-    let at = put_word(line, at, b",");
-    let low = block.corner.y.0;
-    let at = put_span(line, at, b" row", low, low + block.shape.h.0);
-    let at = put_word(line, at, b": has");
-    let at = put_rows_of(line, at, r, block);
-    let at = put_word(line, at, b", and the block is not counted");
+    let at = put_cut(line, at, r, kind, block);
     with_cut(finish(pen, line, at))
 }
 
@@ -71,6 +87,26 @@ fn say_share(pen: Pen, line: &mut [u8], other: usize, r: Rectangle, block: Recta
     let at = put_word(line, at, b", which has");
     let at = put_rows_of(line, at, r, block);
     finish(pen, line, at)
+}
+
+// Says another module's region, if it is not module k's and has rows of the block.
+fn say_other(
+    pen: Pen,
+    line: &mut [u8],
+    k: usize,
+    other: usize,
+    r: Rectangle,
+    block: Rectangle,
+) -> Pen
+    requires { ⌜ Bytes r × Bytes block ⌝ }
+{
+    if other == k {
+        return pen;
+    }
+    if !meets(r, block) {
+        return pen;
+    }
+    say_share(pen, line, other, r, block)
 }
 
 // Says each region but module k's that has rows of the block.
@@ -87,10 +123,7 @@ fn say_shares(
     let modules = design.modules;
     let mut pen = pen;
     for other in 0..modules {
-        let r = rectangle_at(rows, other);
-        if other != k && meets(r, block) {
-            pen = say_share(pen, line, other, r, block);
-        }
+        pen = say_other(pen, line, k, other, rectangle_at(rows, other), block);
     }
     pen
 }
@@ -122,7 +155,7 @@ fn say_column(pen: Pen, line: &mut [u8], design: Design, rows: &[u8], k: usize, 
     requires { ⌜ Drawable design (now rows) × (k < design .modules) × (x < design .chip .width .0) ⌝ }
 {
     let chip = design.chip;
-    let many = many_of(chip, kind_at(chip, x));
+    let many = many_at(chip, x);
     let mut pen = pen;
     for j in 0..many {
         pen = say_block(pen, line, design, rows, k, x, j);

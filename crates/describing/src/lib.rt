@@ -15,6 +15,7 @@ use pen::finish;
 use pen::start_name;
 use pen::start_words;
 use rows::rectangle_at;
+use rules::Chip;
 use rules::Design;
 use rules::Need;
 use rules::Rectangle;
@@ -23,32 +24,48 @@ pub use signs::sign_of;
 use telling::put_byte;
 use telling::put_number;
 use telling::put_word;
-ghost use Prim.Native.Nat.{_<_};
-ghost use Rattle.rules.specs.Design.{mostModules};
+ghost use Prim.Native.Nat.{_≤_, _<_};
+ghost use lib.ListN.{length};
+ghost use Rattle.rules.specs.Design.{LawfulDesign};
+ghost use Rattle.rules.proofs.Limits.{NeedLimits};
 ghost use Rattle.rows.specs.Row.{Bytes};
+ghost use Rattle.blocks.specs.Cut.{Within};
 ghost use Rattle.blocks.specs.Drawable.{Drawable};
 
-// A region's name and its place. In text the sign that the picture has for it stands before them.
+// Puts a region's columns and rows.
+fn put_place(out: &mut [u8], at: usize, r: Rectangle) -> usize
+    requires { ⌜ (at ≤ length (now out)) × Bytes r ⌝ }
+    ensures { λ n. ⌜ n ≤ length (now (out .exit)) ⌝ }
+{
+    let left = r.corner.x.0;
+    let right = left + r.shape.w.0;
+    let low = r.corner.y.0;
+    let far = low + r.shape.h.0;
+    let next = put_span(out, at, b" column", left, right);
+    put_span(out, next, b", row", low, far)
+}
+
+// Starts the line with a region's name: in text with the sign that the picture has for it.
+fn start_region(pen: Pen, line: &mut [u8], k: usize) -> usize
+    ensures { λ r. ⌜ r ≤ length (now (line .exit)) ⌝ }
+{
+    let at = start_name(pen, line);
+    if pen.svg {
+        return at;
+    }
+    let at = put_byte(line, at, sign_of(k));
+    put_word(line, at, b"  ")
+}
+
+// A region's name and its place.
 fn say_name(pen: Pen, line: &mut [u8], k: usize, r: Rectangle) -> Pen
     requires { ⌜ Bytes r ⌝ }
 {
-    let mut at = start_name(pen, line);
-    if !pen.svg {
-        at = put_byte(line, at, sign_of(k));
-        at = put_word(line, at, b"  ");
-    }
-    at = put_word(line, at, b"module");
-    at = put_number(line, at, b' ', k);
-    at = put_byte(line, at, b':');
-    at = put_span(
-        line,
-        at,
-        b" column",
-        r.corner.x.0,
-        r.corner.x.0 + r.shape.w.0,
-    );
-    at = put_byte(line, at, b',');
-    at = put_span(line, at, b" row", r.corner.y.0, r.corner.y.0 + r.shape.h.0);
+    let at = start_region(pen, line, k);
+    let at = put_word(line, at, b"module");
+    let at = put_number(line, at, b' ', k);
+    let at = put_byte(line, at, b':');
+    let at = put_place(line, at, r);
     finish(pen, line, at)
 }
 
@@ -72,9 +89,22 @@ fn say_idle(pen: Pen, line: &mut [u8], idle: usize, cells: usize) -> Pen {
 
 // The need of module k.
 fn need_of(design: Design, k: usize) -> Need
-    requires { ⌜ k < mostModules ⌝ }
+    requires { ⌜ LawfulDesign design × (k < design .modules) ⌝ }
+    ensures { λ r. ⌜ NeedLimits r ⌝ }
 {
     design.needs[k]
+}
+
+// What a region needs and holds, and its idle cells.
+fn say_contents(pen: Pen, line: &mut [u8], chip: Chip, need: Need, r: Rectangle) -> Pen
+    requires { ⌜ Within chip × NeedLimits need × Bytes r ⌝ }
+{
+    let holds = held(chip, r);
+    let cells = cells_of(r);
+    let idle = idle_cells(chip.block, cells, need);
+    let pen = say_amounts(pen, line, b"needs", need);
+    let pen = say_amounts(pen, line, b"holds", holds);
+    say_idle(pen, line, idle, cells)
 }
 
 // Says all of module k's region.
@@ -85,11 +115,7 @@ fn say_region(pen: Pen, line: &mut [u8], design: Design, rows: &[u8], k: usize) 
     let need = need_of(design, k);
     let chip = design.chip;
     let pen = say_name(pen, line, k, r);
-    let pen = say_amounts(pen, line, b"needs", need);
-    let pen = say_amounts(pen, line, b"holds", held(chip, r));
-    let cells = cells_of(r);
-    let idle = idle_cells(chip.block, cells, need);
-    let pen = say_idle(pen, line, idle, cells);
+    let pen = say_contents(pen, line, chip, need, r);
     say_cuts(pen, line, design, rows, k)
 }
 

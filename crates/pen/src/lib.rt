@@ -83,7 +83,7 @@ pub fn write_words(pen: Pen, line: &mut [u8], words: &[u8]) -> Pen {
 }
 
 // Starts a line of words about a region: its name, or what is said of it, further in.
-fn start(pen: Pen, line: &mut [u8], left: usize, indent: &[u8]) -> usize
+fn start(pen: Pen, line: &mut [u8], left: usize, end: &[u8], indent: &[u8]) -> usize
     ensures { λ r. ⌜ r ≤ length (now (line .exit)) ⌝ }
 {
     if !pen.svg {
@@ -92,21 +92,21 @@ fn start(pen: Pen, line: &mut [u8], left: usize, indent: &[u8]) -> usize
     let at = put_word(line, 0, b"<text");
     let at = put_attribute(line, at, b" x=", left);
     let at = put_attribute(line, at, b" y=", pen.y);
-    put_byte(line, at, b'>')
+    put_word(line, at, end)
 }
 
 // Starts the line with a region's name.
 pub fn start_name(pen: Pen, line: &mut [u8]) -> usize
     ensures { λ r. ⌜ r ≤ length (now (line .exit)) ⌝ }
 {
-    start(pen, line, NAME_LEFT, b"")
+    start(pen, line, NAME_LEFT, b" font-weight=\"bold\">", b"")
 }
 
 // Starts a line with what is said of a region.
 pub fn start_words(pen: Pen, line: &mut [u8]) -> usize
     ensures { λ r. ⌜ r ≤ length (now (line .exit)) ⌝ }
 {
-    start(pen, line, WORDS_LEFT, b"   ")
+    start(pen, line, WORDS_LEFT, b">", b"   ")
 }
 
 // The pen a line further down.

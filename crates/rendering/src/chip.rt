@@ -8,7 +8,7 @@ use crate::places::area_of;
 use crate::places::column_left;
 use blocks::block_at;
 use blocks::kind_at;
-use blocks::many_of;
+use blocks::many_at;
 use pen::Pen;
 use rules::Chip;
 ghost use Prim.Native.Nat.{_≤_, _<_};
@@ -42,7 +42,7 @@ fn draw_blocks(pen: Pen, line: &mut [u8], chip: Chip, x: usize) -> Pen
 {
     let height = chip.height;
     let kind = kind_at(chip, x);
-    let many = many_of(chip, kind);
+    let many = many_at(chip, x);
     let mut pen = pen;
     for j in 0..many {
         pen = draw_block(pen, line, kind, area_of(height, block_at(chip, x, j)));

@@ -16,7 +16,7 @@ pub const LEFT: usize = 64;
 pub const TOP: usize = 88;
 
 // What the axes take below the chip, and the least height of chip and axes, so that the legend beside them has room.
-const AXES: usize = 56;
+const AXES: usize = 76;
 
 const LEAST: usize = 232;
 

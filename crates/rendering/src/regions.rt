@@ -9,8 +9,7 @@ use crate::places::rows_top;
 use blocks::block_at;
 use blocks::common_rows;
 use blocks::cuts;
-use blocks::kind_at;
-use blocks::many_of;
+use blocks::many_at;
 use pen::Pen;
 use pen::put_figure;
 use rows::rectangle_at;
@@ -97,7 +96,7 @@ fn draw_block(pen: Pen, line: &mut [u8], chip: Chip, r: Rectangle, x: usize, j: 
 fn draw_column(pen: Pen, line: &mut [u8], chip: Chip, r: Rectangle, x: usize) -> Pen
     requires { ⌜ Within chip × (x < mostColumns) × Bytes r ⌝ }
 {
-    let many = many_of(chip, kind_at(chip, x));
+    let many = many_at(chip, x);
     let mut pen = pen;
     for j in 0..many {
         pen = draw_block(pen, line, chip, r, x, j);

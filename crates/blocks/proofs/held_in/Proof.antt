@@ -3,7 +3,7 @@ use mathlib.Core.Path.{_≡_, refl, ap, _∙_}
 use Prim.Native.Nat.{ℕ, _-_, _≤_}
 use native.Mathlib.Omega.{arith}
 use borrow.Author.Needs.{needs}
-use Rattle.rules.specs.Chip.{column, columnOf, bottom, top, coversBlock}
+use Rattle.rules.specs.Chip.{column, bottom, top, coversBlock}
 use Rattle.rules.specs.Search.{count}
 use Rattle.blocks.proofs.Standing.{counted-most, one-more}
 use Rattle.blocks.proofs.held_in.Statement.{statement}
@@ -16,15 +16,12 @@ Inv-loop chip x r many held₀ j₀ held j =
 abbrev μ-loop : tie.MeasureT-loop
 μ-loop chip x r many held₀ j₀ held j = many - j
 
-kind-at-requires : tie.Need-kind-at-requires Inv-loop μ-loop
-kind-at-requires c κs = search needs
-
-many-of-requires : tie.Need-many-of-requires Inv-loop μ-loop
-many-of-requires c κs = search needs
+many-at-requires : tie.Need-many-at-requires Inv-loop μ-loop
+many-at-requires c κs = search needs
 
 loop-holds : tie.Need-loop-holds Inv-loop μ-loop
-unfolding count column
-loop-holds c = (omega arith, omega arith, c .many-of .ensures .0 ∙ ap (λ (k : ℕ). columnOf (c .before .before .args .chip) k .many) (c .before .kind-at .ensures), refl)
+unfolding count
+loop-holds c = (omega arith, omega arith, c .many-at .ensures .0, refl)
 
 block-at-requires : tie.Need-block-at-requires Inv-loop μ-loop
 block-at-requires c κs = search needs
@@ -33,7 +30,7 @@ covers-requires : tie.Need-covers-requires Inv-loop μ-loop
 covers-requires c κs = search needs
 
 counted-requires : tie.Need-counted-requires Inv-loop μ-loop
-counted-requires c κs = omega (arith, c .before .before .before .before .many-of .ensures .1)
+counted-requires c κs = omega (arith, c .before .before .before .before .many-at .ensures .1)
 
 add-j : tie.Need-add-j Inv-loop μ-loop
 add-j c = omega arith
@@ -49,8 +46,8 @@ loop-again c =
 
 returns : tie.Need-returns Inv-loop μ-loop
 returns c =
-    let i = c .before .loop .inv in let e : c .before .loop .j ≡ c .before .before .many-of .result = omega arith in
-    let a = c .before .before .before .before .args in
+    let i = c .before .loop .inv in let e : c .before .loop .j ≡ c .before .before .many-at .result = omega arith in
+    let a = c .before .before .before .args in
     i .3 ∙ ap (λ (n : ℕ). count n (coversBlock (column (a .chip) (a .x)) (bottom (a .r)) (top (a .r)))) (e ∙ i .2)
 
 pub held-in-spec : {M : Type 1} → statement M
@@ -59,8 +56,7 @@ held-in-spec =
     (tie.spec
     Inv-loop
     μ-loop
-    kind-at-requires
-    many-of-requires
+    many-at-requires
     loop-holds
     block-at-requires
     covers-requires
