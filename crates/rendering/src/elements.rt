@@ -9,14 +9,22 @@ use telling::put_word;
 ghost use Prim.Native.Nat.{_≤_};
 ghost use lib.ListN.{length};
 
+// Puts the place and the size of an area.
+fn put_area(out: &mut [u8], at: usize, area: Area) -> usize
+    requires { ⌜ at ≤ length (now out) ⌝ }
+    ensures { λ r. ⌜ r ≤ length (now (out .exit)) ⌝ }
+{
+    let next = put_attribute(out, at, b" x=", area.x);
+    let next = put_attribute(out, next, b" y=", area.y);
+    let next = put_attribute(out, next, b" width=", area.w);
+    let next = put_attribute(out, next, b" height=", area.h);
+    put_byte(out, next, b' ')
+}
+
 // A rectangle, drawn as a style says.
 pub fn draw_area(pen: Pen, line: &mut [u8], area: Area, style: &[u8]) -> Pen {
     let at = put_word(line, 0, b"<rect");
-    let at = put_attribute(line, at, b" x=", area.x);
-    let at = put_attribute(line, at, b" y=", area.y);
-    let at = put_attribute(line, at, b" width=", area.w);
-    let at = put_attribute(line, at, b" height=", area.h);
-    let at = put_byte(line, at, b' ');
+    let at = put_area(line, at, area);
     let at = put_word(line, at, style);
     let at = put_word(line, at, b"/>\n");
     write(pen, line, at)

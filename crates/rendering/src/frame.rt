@@ -14,7 +14,6 @@ use describing::letter_of;
 use describing::put_amount;
 use pen::Pen;
 use pen::put_attribute;
-use pen::put_figure;
 use pen::write;
 use pen::write_words;
 use rules::Chip;
@@ -22,73 +21,63 @@ use rules::Columns;
 use rules::Rows;
 use rules::Shape;
 use telling::put_byte;
+use telling::put_number;
 use telling::put_word;
 ghost use Prim.Native.Nat.{_≤_, _<_};
+ghost use lib.ListN.{length};
 ghost use Rattle.rules.specs.Design.{mostColumns, mostRows};
 ghost use Rattle.blocks.specs.Cut.{Within};
 
-// The patterns of CLBs, a cell each from the chip's corner on, and of what a region has of a block that it cuts.
-fn draw_patterns(pen: Pen, line: &mut [u8]) -> Pen {
-    let at = put_word(
-        line,
-        0,
-        b"<pattern id=\"clb\" patternUnits=\"userSpaceOnUse\"",
-    );
-    let at = put_attribute(line, at, b" x=", LEFT);
-    let at = put_attribute(line, at, b" y=", TOP);
-    let at = put_attribute(line, at, b" width=", CELL);
-    let at = put_attribute(line, at, b" height=", CELL);
+// Puts how wide and how high something is.
+fn put_sides(out: &mut [u8], at: usize, w: usize, h: usize) -> usize
+    requires { ⌜ at ≤ length (now out) ⌝ }
+    ensures { λ r. ⌜ r ≤ length (now (out .exit)) ⌝ }
+{
+    let next = put_attribute(out, at, b" width=", w);
+    put_attribute(out, next, b" height=", h)
+}
+
+// The pattern of CLBs, a cell each from the chip's corner on.
+fn draw_clb_pattern(pen: Pen, line: &mut [u8]) -> Pen {
+    let at = put_word(line, 0, b"<pattern id=\"clb\" patternUnits=\"userSpaceOnUse\" x=\"64\" y=\"88\"");
+    let at = put_sides(line, at, CELL, CELL);
     let at = put_word(line, at, b"><rect");
-    let at = put_attribute(line, at, b" width=", CELL);
-    let at = put_attribute(line, at, b" height=", CELL);
-    let at = put_word(
-        line,
-        at,
-        b" fill=\"#f1f4ee\" stroke=\"#c3cabd\"/></pattern>\n",
-    );
-    let pen = write(pen, line, at);
-    let at = put_word(
-        line,
-        0,
-        b"<pattern id=\"cut\" patternUnits=\"userSpaceOnUse\" width=\"7\" height=\"7\"",
-    );
-    let at = put_word(
-        line,
-        at,
-        b" patternTransform=\"rotate(45)\"><rect width=\"7\" height=\"7\" fill=\"#ffffff\"/>",
-    );
-    let at = put_word(
-        line,
-        at,
-        b"<rect width=\"3\" height=\"7\" fill=\"#c00020\"/></pattern>\n",
-    );
+    let at = put_sides(line, at, CELL, CELL);
+    let at = put_word(line, at, b" fill=\"#f1f4ee\" stroke=\"#c3cabd\"/></pattern>\n");
     write(pen, line, at)
+}
+
+// The pattern of what a region has of a block that it cuts.
+fn draw_cut_pattern(pen: Pen, line: &mut [u8]) -> Pen {
+    let at = put_word(line, 0, b"<pattern id=\"cut\" patternUnits=\"userSpaceOnUse\" width=\"7\" height=\"7\"");
+    let at = put_word(line, at, b" patternTransform=\"rotate(45)\"><rect width=\"7\" height=\"7\" fill=\"#ffffff\"/>");
+    let at = put_word(line, at, b"<rect width=\"3\" height=\"7\" fill=\"#c00020\"/></pattern>\n");
+    write(pen, line, at)
+}
+
+// Puts what the whole sheet shows.
+fn put_view(out: &mut [u8], at: usize, w: usize, h: usize) -> usize
+    requires { ⌜ at ≤ length (now out) ⌝ }
+    ensures { λ r. ⌜ r ≤ length (now (out .exit)) ⌝ }
+{
+    let next = put_sides(out, at, w, h);
+    let next = put_word(out, next, b" viewBox=\"0 0");
+    let next = put_number(out, next, b' ', w);
+    let next = put_number(out, next, b' ', h);
+    put_byte(out, next, b'"')
 }
 
 // Starts a sheet that goes down to `bottom`.
 pub fn start_sheet(pen: Pen, line: &mut [u8], width: Columns, bottom: usize) -> Pen
     requires { ⌜ width .0 ≤ mostColumns ⌝ }
 {
-    let wide = sheet_width(width);
     let at = put_word(line, 0, b"<svg xmlns=\"http://www.w3.org/2000/svg\"");
-    let at = put_attribute(line, at, b" width=", wide);
-    let at = put_attribute(line, at, b" height=", bottom);
-    let at = put_word(line, at, b" viewBox=\"0 0 ");
-    let at = put_figure(line, at, wide);
-    let at = put_byte(line, at, b' ');
-    let at = put_figure(line, at, bottom);
-    let at = put_word(
-        line,
-        at,
-        b"\" font-family=\"Helvetica, Arial, sans-serif\" font-size=\"13\" fill=\"#222222\">\n",
-    );
+    let at = put_view(line, at, sheet_width(width), bottom);
+    let at = put_word(line, at, b" font-family=\"Helvetica, Arial, sans-serif\" font-size=\"13\" fill=\"#222222\">\n");
     let pen = write(pen, line, at);
-    let pen = draw_patterns(pen, line);
-    write_words(
-        pen,
-        line,
-        b"<rect width=\"100%\" height=\"100%\" fill=\"#ffffff\"/>\n",
-    )
+    let pen = draw_clb_pattern(pen, line);
+    let pen = draw_cut_pattern(pen, line);
+    write_words(pen, line, b"<rect width=\"100%\" height=\"100%\" fill=\"#ffffff\"/>\n")
 }
 
 // Ends the sheet. A reader sees by it that the drawing is whole.
@@ -96,26 +85,42 @@ pub fn end_sheet(pen: Pen, line: &mut [u8]) -> Pen {
     write_words(pen, line, b"</svg>\n")
 }
 
+// How many modules there are.
+fn draw_title(pen: Pen, line: &mut [u8], modules: usize) -> Pen {
+    let at = put_word(line, 0, b"<text x=\"24\" y=\"32\" font-size=\"18\" font-weight=\"bold\">Floorplan of");
+    let at = put_amount(line, at, modules, b"module");
+    end_text(pen, line, at)
+}
+
+// Puts a size in words.
+fn put_size(out: &mut [u8], at: usize, w: usize, h: usize) -> usize
+    requires { ⌜ at ≤ length (now out) ⌝ }
+    ensures { λ r. ⌜ r ≤ length (now (out .exit)) ⌝ }
+{
+    let next = put_amount(out, at, w, b"column");
+    let next = put_byte(out, next, b',');
+    put_amount(out, next, h, b"row")
+}
+
+// Puts how large the chip and its blocks are.
+fn put_chip(out: &mut [u8], at: usize, chip: Chip) -> usize
+    requires { ⌜ at ≤ length (now out) ⌝ }
+    ensures { λ r. ⌜ r ≤ length (now (out .exit)) ⌝ }
+{
+    let next = put_word(out, at, b"Chip:");
+    let next = put_size(out, next, chip.width.0, chip.height.0);
+    let next = put_word(out, next, b"; blocks");
+    let next = put_amount(out, next, chip.block.0, b"row");
+    put_word(out, next, b" high. ")
+}
+
 // How many modules, and how large the chip, its blocks and the box are.
 pub fn draw_titles(pen: Pen, line: &mut [u8], chip: Chip, modules: usize, size: Shape) -> Pen {
-    let at = put_word(
-        line,
-        0,
-        b"<text x=\"24\" y=\"32\" font-size=\"18\" font-weight=\"bold\">Floorplan of",
-    );
-    let at = put_amount(line, at, modules, b"module");
-    let pen = end_text(pen, line, at);
+    let pen = draw_title(pen, line, modules);
     let at = start_text(line, 24, 54);
-    let at = put_word(line, at, b"Chip:");
-    let at = put_amount(line, at, chip.width.0, b"column");
-    let at = put_byte(line, at, b',');
-    let at = put_amount(line, at, chip.height.0, b"row");
-    let at = put_word(line, at, b"; blocks");
-    let at = put_amount(line, at, chip.block.0, b"row");
-    let at = put_word(line, at, b" high. Box:");
-    let at = put_amount(line, at, size.w.0, b"column");
-    let at = put_byte(line, at, b',');
-    let at = put_amount(line, at, size.h.0, b"row");
+    let at = put_chip(line, at, chip);
+    let at = put_word(line, at, b"Box:");
+    let at = put_size(line, at, size.w.0, size.h.0);
     let at = put_byte(line, at, b'.');
     end_text(pen, line, at)
 }
@@ -156,21 +161,24 @@ fn draw_row_numbers(pen: Pen, line: &mut [u8], height: Rows) -> Pen
     pen
 }
 
+// The axis of the rows, at the left.
+fn draw_row_axis(pen: Pen, line: &mut [u8], height: Rows) -> Pen
+    requires { ⌜ height .0 ≤ mostRows ⌝ }
+{
+    let below = rows_top(height, 0);
+    let pen = write_words(pen, line, b"<g font-size=\"11\" text-anchor=\"end\">\n");
+    let pen = draw_words(pen, line, LEFT - 10, TOP - 8, b"row");
+    let pen = draw_row_numbers(pen, line, height);
+    let pen = draw_words(pen, line, LEFT - 10, below + 20, b"column");
+    draw_words(pen, line, LEFT - 10, below + 37, b"kind")
+}
+
 // The axes: rows at the left, columns and their kinds below.
 pub fn draw_axes(pen: Pen, line: &mut [u8], chip: Chip) -> Pen
     requires { ⌜ Within chip ⌝ }
 {
-    let below = rows_top(chip.height, 0);
-    let pen = write_words(pen, line, b"<g font-size=\"11\" text-anchor=\"end\">\n");
-    let pen = draw_words(pen, line, LEFT - 10, TOP - 8, b"row");
-    let pen = draw_row_numbers(pen, line, chip.height);
-    let pen = draw_words(pen, line, LEFT - 10, below + 20, b"column");
-    let pen = draw_words(pen, line, LEFT - 10, below + 37, b"kind");
-    let pen = write_words(
-        pen,
-        line,
-        b"</g>\n<g font-size=\"11\" text-anchor=\"middle\">\n",
-    );
+    let pen = draw_row_axis(pen, line, chip.height);
+    let pen = write_words(pen, line, b"</g>\n<g font-size=\"11\" text-anchor=\"middle\">\n");
     let pen = draw_column_numbers(pen, line, chip);
     write_words(pen, line, b"</g>\n")
 }

@@ -17,10 +17,12 @@ use pen::Pen;
 use places::words_top;
 use regions::draw_box;
 use regions::draw_regions;
+use rules::Chip;
 use rules::Design;
 use rules::Shape;
 ghost use Prim.Native.Nat.{_≤_};
 ghost use Rattle.rules.specs.Design.{mostColumns, mostRows};
+ghost use Rattle.blocks.specs.Cut.{Within};
 ghost use Rattle.blocks.specs.Drawable.{Drawable};
 
 // A pen at a height; a dry one only measures.
@@ -34,21 +36,35 @@ fn pen_at(y: usize, dry: bool) -> Pen {
     }
 }
 
+// Draws the chip on a sheet that goes down to `bottom`.
+fn draw_ground(pen: Pen, line: &mut [u8], chip: Chip, modules: usize, size: Shape, bottom: usize) -> Pen
+    requires { ⌜ Within chip ⌝ }
+{
+    let pen = start_sheet(pen, line, chip.width, bottom);
+    let pen = draw_titles(pen, line, chip, modules, size);
+    let pen = draw_chip(pen, line, chip);
+    draw_axes(pen, line, chip)
+}
+
+// Draws the sheet but for the words about the regions, which go down to `bottom`.
+fn draw_sheet(pen: Pen, line: &mut [u8], design: Design, rows: &[u8], size: Shape, bottom: usize) -> Pen
+    requires { ⌜ Drawable design (now rows) × (size .w .0 ≤ mostColumns) × (size .h .0 ≤ mostRows) ⌝ }
+{
+    let chip = design.chip;
+    let pen = draw_ground(pen, line, chip, design.modules, size, bottom);
+    let pen = draw_regions(pen, line, design, rows);
+    draw_box(pen, line, chip.height, size)
+}
+
 // Writes a floorplan as an SVG drawing, and says whether every line was written.
 pub fn render(line: &mut [u8], design: Design, rows: &[u8], size: Shape) -> bool
     requires { ⌜ Drawable design (now rows) × (size .w .0 ≤ mostColumns) × (size .h .0 ≤ mostRows) ⌝ }
 {
-    let chip = design.chip;
-    let modules = design.modules;
-    let top = words_top(chip.height);
+    let width = design.chip.width;
+    let top = words_top(design.chip.height);
     let measured = say_regions(pen_at(top, true), line, design, rows);
-    let pen = start_sheet(pen_at(top, false), line, chip.width, measured.y);
-    let pen = draw_titles(pen, line, chip, modules, size);
-    let pen = draw_chip(pen, line, chip);
-    let pen = draw_axes(pen, line, chip);
-    let pen = draw_regions(pen, line, design, rows);
-    let pen = draw_box(pen, line, chip.height, size);
-    let pen = draw_legend(pen, line, chip.width);
+    let pen = draw_sheet(pen_at(top, false), line, design, rows, size, measured.y);
+    let pen = draw_legend(pen, line, width);
     let pen = say_regions(pen, line, design, rows);
     end_sheet(pen, line).fine
 }

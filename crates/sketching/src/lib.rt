@@ -29,7 +29,9 @@ ghost use Rattle.blocks.specs.Drawable.{Drawable};
 const NO_MODULE: u8 = b'.';
 
 // How many digits a number of rows has.
-fn digits_of(n: usize) -> usize {
+fn digits_of(n: usize) -> usize
+    ensures { λ r. ⌜ r ≤ 3 ⌝ }
+{
     match n {
         0..=9 => 1,
         10..=99 => 2,
@@ -47,6 +49,15 @@ fn put_spaces(out: &mut [u8], at: usize, n: usize) -> usize
         next = put_byte(out, next, b' ');
     }
     next
+}
+
+// Puts a sign, a space before it.
+fn put_sign(out: &mut [u8], at: usize, sign: u8) -> usize
+    requires { ⌜ at ≤ length (now out) ⌝ }
+    ensures { λ r. ⌜ r ≤ length (now (out .exit)) ⌝ }
+{
+    let next = put_byte(out, at, b' ');
+    put_byte(out, next, sign)
 }
 
 // The cell in column x and row y.
@@ -98,8 +109,7 @@ fn write_row(pen: Pen, line: &mut [u8], design: Design, rows: &[u8], y: usize) -
     let modules = design.modules;
     let mut at = put_row_number(line, design.chip.height.0, y);
     for x in 0..width {
-        at = put_byte(line, at, b' ');
-        at = put_byte(line, at, sign_at(modules, rows, cell(x, y)));
+        at = put_sign(line, at, sign_at(modules, rows, cell(x, y)));
     }
     let n = put_byte(line, at, b'\n');
     write(pen, line, n)
@@ -125,21 +135,26 @@ fn write_kinds(pen: Pen, line: &mut [u8], chip: Chip) -> Pen
     let wide = digits_of(chip.height.0 - 1);
     let mut at = put_spaces(line, 0, wide + 1);
     for x in 0..width {
-        at = put_byte(line, at, b' ');
-        at = put_byte(line, at, letter_of(kind_at(chip, x)));
+        at = put_sign(line, at, letter_of(kind_at(chip, x)));
     }
     let n = put_byte(line, at, b'\n');
     write(pen, line, n)
 }
 
-// Writes how large the box is and how high the blocks are.
-fn write_sizes(pen: Pen, line: &mut [u8], chip: Chip, size: Shape) -> Pen {
+// Writes how large the box is.
+fn write_box(pen: Pen, line: &mut [u8], size: Shape) -> Pen {
     let at = put_word(line, 0, b"\nbox from the lower left corner:");
     let at = put_amount(line, at, size.w.0, b"column");
     let at = put_byte(line, at, b',');
     let at = put_amount(line, at, size.h.0, b"row");
-    let at = put_word(line, at, b"\nRAM and multiplier blocks:");
-    let at = put_amount(line, at, chip.block.0, b"row");
+    let at = put_byte(line, at, b'\n');
+    write(pen, line, at)
+}
+
+// Writes how high the blocks are.
+fn write_blocks(pen: Pen, line: &mut [u8], block: Rows) -> Pen {
+    let at = put_word(line, 0, b"RAM and multiplier blocks:");
+    let at = put_amount(line, at, block.0, b"row");
     let at = put_word(line, at, b" each, from row 0\n\n");
     write(pen, line, at)
 }
@@ -154,11 +169,21 @@ fn write_end(pen: Pen, line: &mut [u8], modules: usize) -> Pen {
     write(pen, line, at)
 }
 
+// Writes the picture: rows, kinds, and how large the box and the blocks are.
+fn write_picture(pen: Pen, line: &mut [u8], design: Design, rows: &[u8], size: Shape) -> Pen
+    requires { ⌜ Drawable design (now rows) ⌝ }
+{
+    let chip = design.chip;
+    let pen = write_rows(pen, line, design, rows);
+    let pen = write_kinds(pen, line, chip);
+    let pen = write_box(pen, line, size);
+    write_blocks(pen, line, chip.block)
+}
+
 // Writes a floorplan as text, and says whether every line was written.
 pub fn sketch(line: &mut [u8], design: Design, rows: &[u8], size: Shape) -> bool
     requires { ⌜ Drawable design (now rows) ⌝ }
 {
-    let chip = design.chip;
     let pen = Pen {
         svg: false,
         dry: false,
@@ -166,9 +191,7 @@ pub fn sketch(line: &mut [u8], design: Design, rows: &[u8], size: Shape) -> bool
         cuts: 0,
         fine: true,
     };
-    let pen = write_rows(pen, line, design, rows);
-    let pen = write_kinds(pen, line, chip);
-    let pen = write_sizes(pen, line, chip, size);
+    let pen = write_picture(pen, line, design, rows, size);
     let pen = say_regions(pen, line, design, rows);
     let pen = write_end(pen, line, design.modules);
     pen.fine
