@@ -9,6 +9,9 @@ use input::ROWS_ROOM;
 use input::header_in;
 use input::plan_in;
 use input::rows_in;
+use libc::STDERR_FILENO;
+use libc::STDIN_FILENO;
+use pen::LINE_ROOM;
 use refusing::refuse;
 use refusing::refuse_by;
 use refusing::unreadable;
@@ -23,6 +26,9 @@ use rules::Shape;
 use sketching::sketch;
 use words::next_of;
 ghost use Rattle.blocks.specs.Drawable.{Drawable};
+
+// More bytes than a header, a design and a plan's text have.
+const INPUT_ROOM: usize = 8_192;
 
 // Draws rows, as text or as SVG.
 fn draw_rows(line: &mut [u8], svg: bool, design: Design, rows: &[u8], size: Shape) -> bool
@@ -100,4 +106,14 @@ pub fn draw(input: &[u8], line: &mut [u8]) -> bool {
         return unreadable(line);
     }
     draw_text(line, header.svg, &rest[0..length], &rest[length..])
+}
+
+// Draws what standard input says. Where a line could not be written, the drawing lacks its last line, and that is said.
+pub fn run_draw() {
+    let mut input = [0u8; INPUT_ROOM];
+    let mut line = [0u8; LINE_ROOM];
+    let count = io::read_full(STDIN_FILENO, &mut input);
+    if !draw(&input[..count], &mut line) {
+        io::write_all(STDERR_FILENO, b"draw: a line could not be written\n");
+    }
 }

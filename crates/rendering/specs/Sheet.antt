@@ -1,6 +1,6 @@
 -- What keeps places on the sheet small enough to count with.
 use Prim.Native.Nat.{_≤_}
-use Rattle.rendering.specs.declared.Area.{Area}
+use Rattle.rendering.specs.declared.places.Area.{Area}
 
 pub record OnSheet (a : Area) : Type 0 where
   pub x : a .x ≤ 8200

@@ -67,14 +67,19 @@ fn put_view(out: &mut [u8], at: usize, w: usize, h: usize) -> usize
     put_byte(out, next, b'"')
 }
 
+// Opens a sheet of a size.
+fn open_sheet(pen: Pen, line: &mut [u8], w: usize, h: usize) -> Pen {
+    let at = put_word(line, 0, b"<svg xmlns=\"http://www.w3.org/2000/svg\"");
+    let at = put_view(line, at, w, h);
+    let at = put_word(line, at, b" font-family=\"Helvetica, Arial, sans-serif\" font-size=\"13\" fill=\"#222222\">\n");
+    write(pen, line, at)
+}
+
 // Starts a sheet that goes down to `bottom`.
 pub fn start_sheet(pen: Pen, line: &mut [u8], width: Columns, bottom: usize) -> Pen
     requires { ⌜ width .0 ≤ mostColumns ⌝ }
 {
-    let at = put_word(line, 0, b"<svg xmlns=\"http://www.w3.org/2000/svg\"");
-    let at = put_view(line, at, sheet_width(width), bottom);
-    let at = put_word(line, at, b" font-family=\"Helvetica, Arial, sans-serif\" font-size=\"13\" fill=\"#222222\">\n");
-    let pen = write(pen, line, at);
+    let pen = open_sheet(pen, line, sheet_width(width), bottom);
     let pen = draw_clb_pattern(pen, line);
     let pen = draw_cut_pattern(pen, line);
     write_words(pen, line, b"<rect width=\"100%\" height=\"100%\" fill=\"#ffffff\"/>\n")
@@ -161,7 +166,15 @@ fn draw_row_numbers(pen: Pen, line: &mut [u8], height: Rows) -> Pen
     pen
 }
 
-// The axis of the rows, at the left.
+// What the lines below the chip say.
+fn draw_line_names(pen: Pen, line: &mut [u8], below: usize) -> Pen
+    requires { ⌜ below ≤ 8192 ⌝ }
+{
+    let pen = draw_words(pen, line, LEFT - 10, below + 20, b"column");
+    draw_words(pen, line, LEFT - 10, below + 37, b"kind")
+}
+
+// The axis of the rows, at the left, and the names of the lines below the chip.
 fn draw_row_axis(pen: Pen, line: &mut [u8], height: Rows) -> Pen
     requires { ⌜ height .0 ≤ mostRows ⌝ }
 {
@@ -169,8 +182,7 @@ fn draw_row_axis(pen: Pen, line: &mut [u8], height: Rows) -> Pen
     let pen = write_words(pen, line, b"<g font-size=\"11\" text-anchor=\"end\">\n");
     let pen = draw_words(pen, line, LEFT - 10, TOP - 8, b"row");
     let pen = draw_row_numbers(pen, line, height);
-    let pen = draw_words(pen, line, LEFT - 10, below + 20, b"column");
-    draw_words(pen, line, LEFT - 10, below + 37, b"kind")
+    draw_line_names(pen, line, below)
 }
 
 // The axes: rows at the left, columns and their kinds below.

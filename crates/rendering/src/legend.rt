@@ -14,7 +14,7 @@ const ENTRY: usize = 30;
 
 // An entry of the legend: a piece of the drawing, and what it means.
 fn draw_entry(pen: Pen, line: &mut [u8], x: usize, place: usize, style: &[u8], words: &[u8]) -> Pen
-    requires { ⌜ (x ≤ 8192) × (place ≤ 16) ⌝ }
+    requires { ⌜ (x ≤ 8300) × (place ≤ 16) ⌝ }
 {
     let y = TOP + ENTRY * place;
     let area = Area { x, y, w: 28, h: 20 };
@@ -24,17 +24,16 @@ fn draw_entry(pen: Pen, line: &mut [u8], x: usize, place: usize, style: &[u8], w
 
 // What is below the regions.
 fn draw_ground(pen: Pen, line: &mut [u8], x: usize) -> Pen
-    requires { ⌜ x ≤ 8192 ⌝ }
+    requires { ⌜ x ≤ 8300 ⌝ }
 {
     let pen = draw_entry(pen, line, x, 0, b"fill=\"#f1f4ee\" stroke=\"#c3cabd\"", b"CLB (column of kind C)");
     let pen = draw_entry(pen, line, x, 1, b"fill=\"#a9c9ee\" stroke=\"#1f4e86\"", b"RAM block (kind R)");
-    let pen = draw_entry(pen, line, x, 2, b"fill=\"#e0973f\" stroke=\"#6b3d00\"", b"multiplier block (kind M)");
-    draw_entry(pen, line, x, 3, b"fill=\"#ffffff\" stroke=\"#888888\"", b"no block above the last whole one")
+    draw_entry(pen, line, x, 2, b"fill=\"#e0973f\" stroke=\"#6b3d00\"", b"multiplier block (kind M)")
 }
 
 // What a region is, the box, and a cut.
 fn draw_lines(pen: Pen, line: &mut [u8], x: usize) -> Pen
-    requires { ⌜ x ≤ 8192 ⌝ }
+    requires { ⌜ x ≤ 8300 ⌝ }
 {
     let region = b"fill=\"#000000\" fill-opacity=\"0.1\" stroke=\"#111111\" stroke-width=\"3\"";
     let outer = b"fill=\"none\" stroke=\"#7a00a8\" stroke-width=\"2\" stroke-dasharray=\"9 5\"";
@@ -50,5 +49,6 @@ pub fn draw_legend(pen: Pen, line: &mut [u8], width: Columns) -> Pen
 {
     let x = legend_left(width);
     let pen = draw_ground(pen, line, x);
+    let pen = draw_entry(pen, line, x, 3, b"fill=\"#ffffff\" stroke=\"#888888\"", b"no block above the last whole one");
     draw_lines(pen, line, x)
 }

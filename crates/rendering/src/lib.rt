@@ -46,6 +46,14 @@ fn draw_ground(pen: Pen, line: &mut [u8], chip: Chip, modules: usize, size: Shap
     draw_axes(pen, line, chip)
 }
 
+// Draws the box, and what everything means.
+fn draw_box_and_legend(pen: Pen, line: &mut [u8], chip: Chip, size: Shape) -> Pen
+    requires { ⌜ Within chip × (size .w .0 ≤ mostColumns) × (size .h .0 ≤ mostRows) ⌝ }
+{
+    let pen = draw_box(pen, line, chip.height, size);
+    draw_legend(pen, line, chip.width)
+}
+
 // Draws the sheet but for the words about the regions, which go down to `bottom`.
 fn draw_sheet(pen: Pen, line: &mut [u8], design: Design, rows: &[u8], size: Shape, bottom: usize) -> Pen
     requires { ⌜ Drawable design (now rows) × (size .w .0 ≤ mostColumns) × (size .h .0 ≤ mostRows) ⌝ }
@@ -53,18 +61,23 @@ fn draw_sheet(pen: Pen, line: &mut [u8], design: Design, rows: &[u8], size: Shap
     let chip = design.chip;
     let pen = draw_ground(pen, line, chip, design.modules, size, bottom);
     let pen = draw_regions(pen, line, design, rows);
-    draw_box(pen, line, chip.height, size)
+    draw_box_and_legend(pen, line, chip, size)
+}
+
+// How far down the words about the regions go that begin at a height: they are said with a dry pen.
+fn bottom_of(line: &mut [u8], design: Design, rows: &[u8], top: usize) -> usize
+    requires { ⌜ Drawable design (now rows) ⌝ }
+{
+    say_regions(pen_at(top, true), line, design, rows).y
 }
 
 // Writes a floorplan as an SVG drawing, and says whether every line was written.
 pub fn render(line: &mut [u8], design: Design, rows: &[u8], size: Shape) -> bool
     requires { ⌜ Drawable design (now rows) × (size .w .0 ≤ mostColumns) × (size .h .0 ≤ mostRows) ⌝ }
 {
-    let width = design.chip.width;
     let top = words_top(design.chip.height);
-    let measured = say_regions(pen_at(top, true), line, design, rows);
-    let pen = draw_sheet(pen_at(top, false), line, design, rows, size, measured.y);
-    let pen = draw_legend(pen, line, width);
+    let bottom = bottom_of(line, design, rows, top);
+    let pen = draw_sheet(pen_at(top, false), line, design, rows, size, bottom);
     let pen = say_regions(pen, line, design, rows);
     end_sheet(pen, line).fine
 }

@@ -43,13 +43,23 @@ pub fn column_left(x: usize) -> usize
     LEFT + CELL * x
 }
 
+// How many rows of the chip lie above those below `far`.
+fn rows_above(height: Rows, far: usize) -> usize
+    requires { ⌜ height .0 ≤ mostRows ⌝ }
+    ensures { λ r. ⌜ r ≤ mostRows ⌝ }
+{
+    if height.0 < far {
+        return 0;
+    }
+    height.0 - far
+}
+
 // Where the rows below `far` begin from above.
 pub fn rows_top(height: Rows, far: usize) -> usize
     requires { ⌜ height .0 ≤ mostRows ⌝ }
     ensures { λ r. ⌜ (88 ≤ r) × (r ≤ 8192) ⌝ }
 {
-    let above = if far < height.0 { height.0 - far } else { 0 };
-    TOP + CELL * above
+    TOP + CELL * rows_above(height, far)
 }
 
 // The area of a rectangle of the chip.
@@ -68,7 +78,7 @@ pub fn area_of(height: Rows, r: Rectangle) -> Area
 // Where the legend begins from the left.
 pub fn legend_left(width: Columns) -> usize
     requires { ⌜ width .0 ≤ mostColumns ⌝ }
-    ensures { λ r. ⌜ r ≤ 8192 ⌝ }
+    ensures { λ r. ⌜ r ≤ 8300 ⌝ }
 {
     column_left(width.0) + MARGIN
 }
@@ -80,10 +90,9 @@ pub fn words_top(height: Rows) -> usize
 {
     let chip = CELL * height.0 + AXES;
     if chip < LEAST {
-        TOP + LEAST
-    } else {
-        TOP + chip
+        return TOP + LEAST;
     }
+    TOP + chip
 }
 
 // How wide the sheet is.
@@ -92,8 +101,7 @@ pub fn sheet_width(width: Columns) -> usize
 {
     let wide = legend_left(width) + LEGEND;
     if wide < LEAST_WIDTH {
-        LEAST_WIDTH
-    } else {
-        wide
+        return LEAST_WIDTH;
     }
+    wide
 }

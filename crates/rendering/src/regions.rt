@@ -5,6 +5,7 @@ use crate::places::Area;
 use crate::places::CELL;
 use crate::places::LEFT;
 use crate::places::area_of;
+use crate::places::column_left;
 use crate::places::rows_top;
 use blocks::block_at;
 use blocks::common_rows;
@@ -14,8 +15,6 @@ use pen::Pen;
 use pen::put_figure;
 use rows::rectangle_at;
 use rules::Chip;
-use rules::Columns;
-use rules::Corner;
 use rules::Design;
 use rules::Rectangle;
 use rules::Rows;
@@ -41,44 +40,47 @@ const LEAST_NAMED: usize = 84;
 // How far an outline stands inside or outside of its rectangle.
 const GAP: usize = 4;
 
+// A length without so much of it, or as it is where it is no longer.
+fn less(n: usize, by: usize) -> usize
+    ensures { λ r. ⌜ r ≤ n ⌝ }
+{
+    if n < by {
+        return n;
+    }
+    n - by
+}
+
 // An area so much smaller on each side.
 fn inside(a: Area) -> Area
     requires { ⌜ OnSheet a ⌝ }
-    ensures { λ r. ⌜ OnSheet r ⌝ }
 {
     Area {
         x: a.x + GAP / 2,
         y: a.y + GAP / 2,
-        w: if GAP < a.w { a.w - GAP } else { a.w },
-        h: if GAP < a.h { a.h - GAP } else { a.h },
+        w: less(a.w, GAP),
+        h: less(a.h, GAP),
     }
+}
+
+// The area of the rows of a block that a region has.
+fn part_of(height: Rows, r: Rectangle, block: Rectangle) -> Area
+    requires { ⌜ (height .0 ≤ mostRows) × Bytes r × Bytes block ⌝ }
+{
+    let rows = common_rows(r, block);
+    let x = column_left(block.corner.x.0);
+    let y = rows_top(height, rows.far.0);
+    let h = less(rows_top(height, rows.low.0), y);
+    Area { x, y, w: CELL, h }
 }
 
 // The part of a block that a region has, hatched, and the whole block's edge.
 fn draw_cut(pen: Pen, line: &mut [u8], height: Rows, r: Rectangle, block: Rectangle) -> Pen
     requires { ⌜ (height .0 ≤ mostRows) × Bytes r × Bytes block ⌝ }
 {
-    let rows = common_rows(r, block);
-    let corner = Corner {
-        x: block.corner.x,
-        y: rows.low,
-    };
-    let shape = Shape {
-        w: Columns(1),
-        h: Rows(if rows.low.0 < rows.far.0 {
-            rows.far.0 - rows.low.0
-        } else {
-            0
-        }),
-    };
-    let part = area_of(height, Rectangle { corner, shape });
+    let part = part_of(height, r, block);
+    let whole = area_of(height, block);
     let pen = draw_area(pen, line, part, b"fill=\"url(#cut)\"");
-    draw_area(
-        pen,
-        line,
-        area_of(height, block),
-        b"fill=\"none\" stroke=\"#c00020\" stroke-width=\"3\"",
-    )
+    draw_area(pen, line, whole, b"fill=\"none\" stroke=\"#c00020\" stroke-width=\"3\"")
 }
 
 // Block j of column x, if the region cuts it.
@@ -118,16 +120,11 @@ fn draw_cuts(pen: Pen, line: &mut [u8], chip: Chip, r: Rectangle) -> Pen
 
 // The part of an area around its middle that a label takes.
 fn label_in(a: Area, w: usize, h: usize) -> Area
-    requires { ⌜ OnSheet a × (w ≤ 100) × (h ≤ 100) ⌝ }
+    requires { ⌜ OnSheet a ⌝ }
 {
-    let x = a.x + a.w / 2;
-    let y = a.y + a.h / 2;
-    Area {
-        x: if w / 2 < x { x - w / 2 } else { x },
-        y: if h / 2 < y { y - h / 2 } else { y },
-        w,
-        h,
-    }
+    let x = less(a.x + a.w / 2, w / 2);
+    let y = less(a.y + a.h / 2, h / 2);
+    Area { x, y, w, h }
 }
 
 // Starts a label in the middle of an area, along its columns or up its rows.
@@ -148,28 +145,39 @@ fn start_label(line: &mut [u8], a: Area, up: bool) -> usize
     put_word(line, at, b")\">")
 }
 
+// Puts a module's name, or its number alone.
+fn put_label(out: &mut [u8], at: usize, k: usize, named: bool) -> usize
+    requires { ⌜ at ≤ length (now out) ⌝ }
+    ensures { λ r. ⌜ r ≤ length (now (out .exit)) ⌝ }
+{
+    if !named {
+        return put_figure(out, at, k);
+    }
+    let next = put_word(out, at, b"module");
+    put_number(out, next, b' ', k)
+}
+
+// A label of module k in the middle of an area, over a light ground of its own.
+fn draw_label(pen: Pen, line: &mut [u8], k: usize, a: Area, ground: Area, up: bool, named: bool) -> Pen
+    requires { ⌜ OnSheet a ⌝ }
+{
+    let pen = draw_area(pen, line, ground, b"fill=\"#ffffff\" fill-opacity=\"0.85\"");
+    let at = start_label(line, a, up);
+    let at = put_label(line, at, k, named);
+    end_text(pen, line, at)
+}
+
 // Names module k in an area; where it is too small for the name, by its number.
 fn draw_name(pen: Pen, line: &mut [u8], k: usize, a: Area) -> Pen
     requires { ⌜ OnSheet a ⌝ }
 {
-    let flat = LEAST_NAMED <= a.w;
-    let up = !flat && LEAST_NAMED <= a.h;
-    let w = if flat { NAME } else { LETTERS };
-    let h = if up { NAME } else { LETTERS };
-    let pen = draw_area(
-        pen,
-        line,
-        label_in(a, w, h),
-        b"fill=\"#ffffff\" fill-opacity=\"0.85\"",
-    );
-    let at = start_label(line, a, up);
-    if flat || up {
-        let at = put_word(line, at, b"module");
-        let at = put_number(line, at, b' ', k);
-        return end_text(pen, line, at);
+    if LEAST_NAMED <= a.w {
+        return draw_label(pen, line, k, a, label_in(a, NAME, LETTERS), false, true);
     }
-    let at = put_figure(line, at, k);
-    end_text(pen, line, at)
+    if LEAST_NAMED <= a.h {
+        return draw_label(pen, line, k, a, label_in(a, LETTERS, NAME), true, true);
+    }
+    draw_label(pen, line, k, a, label_in(a, LETTERS, LETTERS), false, false)
 }
 
 // Hatches what the regions have of blocks that they cut.
