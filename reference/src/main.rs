@@ -4,8 +4,7 @@
 //! `reference random SEED COUNT` the services on random designs against the definitions,
 //! `reference plan` the plan program on standard input, and `reference ask` answers requests;
 //! `reference requests FILE` makes requests of stored cases; `reference cases` is the plan program on
-//! many inputs, each with its length in two bytes before it. `reference draw` is the draw program,
-//! and `reference drawings` the same on many inputs.
+//! many inputs, each with its length in two bytes before it. `reference draw` is the draw program.
 
 mod ask;
 mod bytes;
@@ -38,8 +37,7 @@ const USAGE: &str = "usage: reference vectors FOLDER
        reference ask < REQUESTS
        reference requests FILE
        reference cases < INPUTS
-       reference draw < INPUT
-       reference drawings < INPUTS";
+       reference draw < INPUT";
 
 fn main() -> ExitCode {
     let arguments: Vec<String> = env::args().skip(1).collect();
@@ -50,9 +48,8 @@ fn main() -> ExitCode {
         ["random", seed, count] => random_designs(seed, count),
         ["plan"] => plan_standard_input(),
         ["ask"] => ask_standard_input(),
-        ["cases"] => cases(program::plan_program),
+        ["cases"] => plan_cases(),
         ["draw"] => draw_standard_input(),
-        ["drawings"] => cases(draw::draw_program),
         ["requests", file] => ask::requests(Path::new(file)).map(|text| {
             print!("{text}");
             true
@@ -85,14 +82,14 @@ fn plan_standard_input() -> Result<bool, String> {
     Ok(true)
 }
 
-fn cases(program: fn(&[u8]) -> String) -> Result<bool, String> {
+fn plan_cases() -> Result<bool, String> {
     let mut input = Vec::new();
     let mut stdin = io::stdin().lock();
     stdin.read_to_end(&mut input).map_err(|e| e.to_string())?;
     let mut rest = &input[..];
     while let [low, high, after @ ..] = rest {
         let long = (usize::from(*low) + 256 * usize::from(*high)).min(after.len());
-        print!("{}", program(&after[..long]));
+        print!("{}", program::plan_program(&after[..long]));
         rest = &after[long..];
     }
     Ok(true)
