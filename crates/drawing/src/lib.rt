@@ -55,6 +55,18 @@ fn draw_passed(line: &mut [u8], svg: bool, design: Design, rows: &[u8], size: Sh
     draw_rows(line, svg, design, rows, size)
 }
 
+// Lends stored rows as bytes.
+fn draw_stored(
+    line: &mut [u8],
+    svg: bool,
+    design: Design,
+    rows: &[u8; ROWS_ROOM],
+    size: Shape,
+) -> bool {
+    let bytes: &[u8] = rows;
+    draw_passed(line, svg, design, bytes, size)
+}
+
 // Draws the rows of a plan whose box is of this size.
 fn draw_plan(line: &mut [u8], svg: bool, bytes: &[u8], lines: &[u8], size: Shape) -> bool {
     let handed = read(bytes);
@@ -67,7 +79,7 @@ fn draw_plan(line: &mut [u8], svg: bool, bytes: &[u8], lines: &[u8], size: Shape
     if !rows_in(lines, design.modules, &mut rows) {
         return unreadable(line);
     }
-    draw_passed(line, svg, design, &rows, size)
+    draw_stored(line, svg, design, &rows, size)
 }
 
 // Draws a design by the plan's text, if the plan is done.

@@ -82,15 +82,23 @@ fn put_cause(out: &mut [u8], at: usize, number: usize) -> usize
     }
 }
 
+// Puts a reply: its number, its place and its cause.
+fn put_reply(out: &mut [u8], at: usize, number: usize, value: usize) -> usize
+    requires { ⌜ at ≤ length (now out) ⌝ }
+    ensures { λ r. ⌜ r ≤ length (now (out .exit)) ⌝ }
+{
+    let next = put_number(out, at, b' ', number);
+    let next = put_place(out, next, number, value);
+    let next = put_word(out, next, b": ");
+    put_cause(out, next, number)
+}
+
 // Somebody replies with a number, and a place beside it.
 pub fn refuse(line: &mut [u8], who: &[u8], number: usize, value: usize) -> bool {
     let at = put_word(line, 0, b"not drawn: ");
     let at = put_word(line, at, who);
     let at = put_word(line, at, b" replies");
-    let at = put_number(line, at, b' ', number);
-    let at = put_place(line, at, number, value);
-    let at = put_word(line, at, b": ");
-    let at = put_cause(line, at, number);
+    let at = put_reply(line, at, number, value);
     let at = put_byte(line, at, b'\n');
     write(new_pen(), line, at).fine
 }

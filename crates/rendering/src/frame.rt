@@ -39,19 +39,39 @@ fn put_sides(out: &mut [u8], at: usize, w: usize, h: usize) -> usize
 
 // The pattern of CLBs, a cell each from the chip's corner on.
 fn draw_clb_pattern(pen: Pen, line: &mut [u8]) -> Pen {
-    let at = put_word(line, 0, b"<pattern id=\"clb\" patternUnits=\"userSpaceOnUse\" x=\"64\" y=\"88\"");
+    let at = put_word(
+        line,
+        0,
+        b"<pattern id=\"clb\" patternUnits=\"userSpaceOnUse\" x=\"64\" y=\"88\"",
+    );
     let at = put_sides(line, at, CELL, CELL);
     let at = put_word(line, at, b"><rect");
     let at = put_sides(line, at, CELL, CELL);
-    let at = put_word(line, at, b" fill=\"#f1f4ee\" stroke=\"#c3cabd\"/></pattern>\n");
+    let at = put_word(
+        line,
+        at,
+        b" fill=\"#f1f4ee\" stroke=\"#c3cabd\"/></pattern>\n",
+    );
     write(pen, line, at)
 }
 
 // The pattern of what a region has of a block that it cuts.
 fn draw_cut_pattern(pen: Pen, line: &mut [u8]) -> Pen {
-    let at = put_word(line, 0, b"<pattern id=\"cut\" patternUnits=\"userSpaceOnUse\" width=\"7\" height=\"7\"");
-    let at = put_word(line, at, b" patternTransform=\"rotate(45)\"><rect width=\"7\" height=\"7\" fill=\"#ffffff\"/>");
-    let at = put_word(line, at, b"<rect width=\"3\" height=\"7\" fill=\"#c00020\"/></pattern>\n");
+    let at = put_word(
+        line,
+        0,
+        b"<pattern id=\"cut\" patternUnits=\"userSpaceOnUse\" width=\"7\" height=\"7\"",
+    );
+    let at = put_word(
+        line,
+        at,
+        b" patternTransform=\"rotate(45)\"><rect width=\"7\" height=\"7\" fill=\"#ffffff\"/>",
+    );
+    let at = put_word(
+        line,
+        at,
+        b"<rect width=\"3\" height=\"7\" fill=\"#c00020\"/></pattern>\n",
+    );
     write(pen, line, at)
 }
 
@@ -71,7 +91,11 @@ fn put_view(out: &mut [u8], at: usize, w: usize, h: usize) -> usize
 fn open_sheet(pen: Pen, line: &mut [u8], w: usize, h: usize) -> Pen {
     let at = put_word(line, 0, b"<svg xmlns=\"http://www.w3.org/2000/svg\"");
     let at = put_view(line, at, w, h);
-    let at = put_word(line, at, b" font-family=\"Helvetica, Arial, sans-serif\" font-size=\"13\" fill=\"#222222\">\n");
+    let at = put_word(
+        line,
+        at,
+        b" font-family=\"Helvetica, Arial, sans-serif\" font-size=\"13\" fill=\"#222222\">\n",
+    );
     write(pen, line, at)
 }
 
@@ -82,7 +106,11 @@ pub fn start_sheet(pen: Pen, line: &mut [u8], width: Columns, bottom: usize) -> 
     let pen = open_sheet(pen, line, sheet_width(width), bottom);
     let pen = draw_clb_pattern(pen, line);
     let pen = draw_cut_pattern(pen, line);
-    write_words(pen, line, b"<rect width=\"100%\" height=\"100%\" fill=\"#ffffff\"/>\n")
+    write_words(
+        pen,
+        line,
+        b"<rect width=\"100%\" height=\"100%\" fill=\"#ffffff\"/>\n",
+    )
 }
 
 // Ends the sheet. A reader sees by it that the drawing is whole.
@@ -92,7 +120,11 @@ pub fn end_sheet(pen: Pen, line: &mut [u8]) -> Pen {
 
 // How many modules there are.
 fn draw_title(pen: Pen, line: &mut [u8], modules: usize) -> Pen {
-    let at = put_word(line, 0, b"<text x=\"24\" y=\"32\" font-size=\"18\" font-weight=\"bold\">Floorplan of");
+    let at = put_word(
+        line,
+        0,
+        b"<text x=\"24\" y=\"32\" font-size=\"18\" font-weight=\"bold\">Floorplan of",
+    );
     let at = put_amount(line, at, modules, b"module");
     end_text(pen, line, at)
 }
@@ -190,7 +222,11 @@ pub fn draw_axes(pen: Pen, line: &mut [u8], chip: Chip) -> Pen
     requires { ⌜ Within chip ⌝ }
 {
     let pen = draw_row_axis(pen, line, chip.height);
-    let pen = write_words(pen, line, b"</g>\n<g font-size=\"11\" text-anchor=\"middle\">\n");
+    let pen = write_words(
+        pen,
+        line,
+        b"</g>\n<g font-size=\"11\" text-anchor=\"middle\">\n",
+    );
     let pen = draw_column_numbers(pen, line, chip);
     write_words(pen, line, b"</g>\n")
 }

@@ -26,9 +26,30 @@ fn draw_entry(pen: Pen, line: &mut [u8], x: usize, place: usize, style: &[u8], w
 fn draw_ground(pen: Pen, line: &mut [u8], x: usize) -> Pen
     requires { ⌜ x ≤ 8300 ⌝ }
 {
-    let pen = draw_entry(pen, line, x, 0, b"fill=\"#f1f4ee\" stroke=\"#c3cabd\"", b"CLB (column of kind C)");
-    let pen = draw_entry(pen, line, x, 1, b"fill=\"#a9c9ee\" stroke=\"#1f4e86\"", b"RAM block (kind R)");
-    draw_entry(pen, line, x, 2, b"fill=\"#e0973f\" stroke=\"#6b3d00\"", b"multiplier block (kind M)")
+    let pen = draw_entry(
+        pen,
+        line,
+        x,
+        0,
+        b"fill=\"#f1f4ee\" stroke=\"#c3cabd\"",
+        b"CLB (column of kind C)",
+    );
+    let pen = draw_entry(
+        pen,
+        line,
+        x,
+        1,
+        b"fill=\"#a9c9ee\" stroke=\"#1f4e86\"",
+        b"RAM block (kind R)",
+    );
+    draw_entry(
+        pen,
+        line,
+        x,
+        2,
+        b"fill=\"#e0973f\" stroke=\"#6b3d00\"",
+        b"multiplier block (kind M)",
+    )
 }
 
 // What a region is, the box, and a cut.
@@ -40,7 +61,14 @@ fn draw_lines(pen: Pen, line: &mut [u8], x: usize) -> Pen
     let cut = b"fill=\"url(#cut)\" stroke=\"#c00020\" stroke-width=\"3\"";
     let pen = draw_entry(pen, line, x, 4, region, b"region of a module");
     let pen = draw_entry(pen, line, x, 5, outer, b"box of the floorplan");
-    draw_entry(pen, line, x, 6, cut, b"block that a region cuts: not counted")
+    draw_entry(
+        pen,
+        line,
+        x,
+        6,
+        cut,
+        b"block that a region cuts: not counted",
+    )
 }
 
 // The legend.
@@ -49,6 +77,13 @@ pub fn draw_legend(pen: Pen, line: &mut [u8], width: Columns) -> Pen
 {
     let x = legend_left(width);
     let pen = draw_ground(pen, line, x);
-    let pen = draw_entry(pen, line, x, 3, b"fill=\"#ffffff\" stroke=\"#888888\"", b"no block above the last whole one");
+    let pen = draw_entry(
+        pen,
+        line,
+        x,
+        3,
+        b"fill=\"#ffffff\" stroke=\"#888888\"",
+        b"no block above the last whole one",
+    );
     draw_lines(pen, line, x)
 }

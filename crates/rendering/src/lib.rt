@@ -37,7 +37,14 @@ fn pen_at(y: usize, dry: bool) -> Pen {
 }
 
 // Draws the chip on a sheet that goes down to `bottom`.
-fn draw_ground(pen: Pen, line: &mut [u8], chip: Chip, modules: usize, size: Shape, bottom: usize) -> Pen
+fn draw_ground(
+    pen: Pen,
+    line: &mut [u8],
+    chip: Chip,
+    modules: usize,
+    size: Shape,
+    bottom: usize,
+) -> Pen
     requires { ⌜ Within chip ⌝ }
 {
     let pen = start_sheet(pen, line, chip.width, bottom);
@@ -55,7 +62,14 @@ fn draw_box_and_legend(pen: Pen, line: &mut [u8], chip: Chip, size: Shape) -> Pe
 }
 
 // Draws the sheet but for the words about the regions, which go down to `bottom`.
-fn draw_sheet(pen: Pen, line: &mut [u8], design: Design, rows: &[u8], size: Shape, bottom: usize) -> Pen
+fn draw_sheet(
+    pen: Pen,
+    line: &mut [u8],
+    design: Design,
+    rows: &[u8],
+    size: Shape,
+    bottom: usize,
+) -> Pen
     requires { ⌜ Drawable design (now rows) × (size .w .0 ≤ mostColumns) × (size .h .0 ≤ mostRows) ⌝ }
 {
     let chip = design.chip;

@@ -80,7 +80,12 @@ fn draw_cut(pen: Pen, line: &mut [u8], height: Rows, r: Rectangle, block: Rectan
     let part = part_of(height, r, block);
     let whole = area_of(height, block);
     let pen = draw_area(pen, line, part, b"fill=\"url(#cut)\"");
-    draw_area(pen, line, whole, b"fill=\"none\" stroke=\"#c00020\" stroke-width=\"3\"")
+    draw_area(
+        pen,
+        line,
+        whole,
+        b"fill=\"none\" stroke=\"#c00020\" stroke-width=\"3\"",
+    )
 }
 
 // Block j of column x, if the region cuts it.
@@ -158,7 +163,15 @@ fn put_label(out: &mut [u8], at: usize, k: usize, named: bool) -> usize
 }
 
 // A label of module k in the middle of an area, over a light ground of its own.
-fn draw_label(pen: Pen, line: &mut [u8], k: usize, a: Area, ground: Area, up: bool, named: bool) -> Pen
+fn draw_label(
+    pen: Pen,
+    line: &mut [u8],
+    k: usize,
+    a: Area,
+    ground: Area,
+    up: bool,
+    named: bool,
+) -> Pen
     requires { ⌜ OnSheet a ⌝ }
 {
     let pen = draw_area(pen, line, ground, b"fill=\"#ffffff\" fill-opacity=\"0.85\"");

@@ -20,9 +20,10 @@ mul-t9 c =
 returns : tie.Need-returns
 returns c =
     let b = c .before in let p = b .before .before .pre in
-    let s = on-chip _ _ _ (b .before .kind-at .ensures) (b .high-of .ensures) (p .0) (p .2) in
-    (is-block _ _ _ _ (b .before .kind-at .ensures) (b .high-of .ensures) refl refl refl refl,
-    record { x = omega arith; y = omega arith; w = omega arith; h = omega arith })
+    let s = on-chip _ _ _ (b .before .kind-at .ensures) (b .high-of .ensures) (p .0) (p .2) in (
+      is-block _ _ _ _ (b .before .kind-at .ensures) (b .high-of .ensures) refl refl refl refl,
+      record { x = omega arith; y = omega arith; w = omega arith; h = omega arith },
+    )
 
 pub block-at-spec : {M : Type 1} → statement M
 block-at-spec = tie.close (tie.spec kind-at-requires high-of-requires mul-t9 returns)

@@ -14,9 +14,10 @@ many-of-requires c κs = search needs
 
 returns : tie.Need-returns
 unfolding column
-returns c =
-    (c .many-of .ensures .0 ∙ ap (λ (k : ℕ). columnOf (c .before .before .args .chip) k .many) (c .before .kind-at .ensures),
-    c .many-of .ensures .1)
+returns c = (
+  c .many-of .ensures .0 ∙ ap (λ (k : ℕ). columnOf (c .before .before .args .chip) k .many) (c .before .kind-at .ensures),
+  c .many-of .ensures .1,
+)
 
 pub many-at-spec : {M : Type 1} → statement M
 many-at-spec = tie.close (tie.spec kind-at-requires many-of-requires returns)
