@@ -5,7 +5,7 @@
 //! `reference plan` the plan program on standard input, and `reference ask` answers requests;
 //! `reference requests FILE` makes requests of stored cases; `reference say` says what the plan program's
 //! answer means, `reference hex` and `hex_back` turn typed text into bytes and back; `reference cases`, `says` and `hexes` are the plan program, `say`, and typed text turned and
-//! turned back, on many inputs, each with its length in two bytes before it; `damaged` and `typed` write such inputs.
+//! turned back, on many inputs, each with its length in two bytes before it; `damaged` and `typed` write such inputs; `reference draw` is the draw program.
 
 mod ask;
 mod bytes;
@@ -14,6 +14,7 @@ mod chip;
 mod choice;
 mod damaged;
 mod design;
+mod draw;
 mod edit;
 mod examples;
 mod fields;
@@ -47,7 +48,8 @@ const USAGE: &str = "usage: reference vectors FOLDER
        reference says < INPUTS
        reference hexes < INPUTS
        reference damaged
-       reference typed";
+       reference typed
+       reference draw < INPUT";
 
 fn main() -> ExitCode {
     let arguments: Vec<String> = env::args().skip(1).collect();
@@ -66,6 +68,7 @@ fn main() -> ExitCode {
         ["hexes"] => answer_cases(typed::round_trip),
         ["damaged"] => write_out(&damaged::designs()),
         ["typed"] => write_out(&damaged::typed()),
+        ["draw"] => draw_standard_input(),
         ["requests", file] => ask::requests(Path::new(file)).map(|text| {
             print!("{text}");
             true
@@ -111,6 +114,14 @@ fn answer_cases(answer: fn(&[u8]) -> String) -> Result<bool, String> {
         print!("{}", answer(&after[..long]));
         rest = &after[long..];
     }
+    Ok(true)
+}
+
+fn draw_standard_input() -> Result<bool, String> {
+    let mut input = Vec::new();
+    let mut stdin = io::stdin().lock();
+    stdin.read_to_end(&mut input).map_err(|e| e.to_string())?;
+    print!("{}", draw::draw_program(&input));
     Ok(true)
 }
 

@@ -1,0 +1,2 @@
+-- What the proofs of blocks share.
+pub mod Standing

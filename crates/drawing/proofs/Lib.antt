@@ -1,0 +1,2 @@
+-- What the proofs of drawing share.
+pub mod Passed

@@ -1,0 +1,49 @@
+-- `rendering::draw_column_numbers` meets its contract: the loop goes through the numbers below its bound. Assumes nothing.
+use mathlib.Core.Path.{_≡_}
+use Prim.Native.Nat.{_-_, _≤_}
+use native.Mathlib.Omega.{arith}
+use borrow.Author.Needs.{needs}
+use lib.ListN.{length}
+use Rattle.rendering.proofs.frame.draw_column_numbers.Statement.{statement}
+use Rattle.rendering.proofs.frame.draw_column_numbers.Tie as tie
+
+abbrev Inv-loop : tie.InvT-loop
+Inv-loop line₀ chip width pen₀ x₀ line pen x = (x ≤ width) × (length line ≡ length line₀)
+
+abbrev μ-loop : tie.MeasureT-loop
+μ-loop line₀ chip width pen₀ x₀ line pen x = width - x
+
+loop-holds : tie.Need-loop-holds Inv-loop μ-loop
+loop-holds c = search needs
+
+draw-column-number-requires : tie.Need-draw-column-number-requires Inv-loop μ-loop
+draw-column-number-requires c κs = search needs
+
+add-x : tie.Need-add-x Inv-loop μ-loop
+add-x c = omega arith
+
+loop-less : tie.Need-loop-less Inv-loop μ-loop
+loop-less c = search needs
+
+loop-again : tie.Need-loop-again Inv-loop μ-loop
+loop-again c = search needs
+
+same-length : tie.Need-same-length Inv-loop μ-loop
+same-length c = search needs
+
+returns : tie.Need-returns Inv-loop μ-loop
+returns c = search needs
+
+pub draw-column-numbers-spec : {M : Type 1} → statement M
+draw-column-numbers-spec =
+    tie.close
+    (tie.spec
+    Inv-loop
+    μ-loop
+    loop-holds
+    draw-column-number-requires
+    add-x
+    loop-less
+    loop-again
+    same-length
+    returns)

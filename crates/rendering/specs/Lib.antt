@@ -1,0 +1,2 @@
+-- What keeps places on the sheet small enough to count with.
+pub mod Sheet
