@@ -418,7 +418,7 @@ impl Sheet {
     }
 
     fn head(&self, bottom: usize) -> String {
-        let wide = (self.legend_left() + 272).max(760);
+        let wide = (self.legend_left() + 320).max(800);
         format!(
             "<svg xmlns=\"http://www.w3.org/2000/svg\" width=\"{wide}\" height=\"{bottom}\" viewBox=\"0 0 {wide} {bottom}\" \
              font-family=\"Helvetica, Arial, sans-serif\" font-size=\"13\" fill=\"#222222\">\n\

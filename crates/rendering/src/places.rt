@@ -21,9 +21,9 @@ const AXES: usize = 76;
 const LEAST: usize = 232;
 
 // What the legend takes beside the chip, and the least width of the sheet, so that the words have room.
-const LEGEND: usize = 272;
+const LEGEND: usize = 320;
 
-const LEAST_WIDTH: usize = 760;
+const LEAST_WIDTH: usize = 800;
 
 const MARGIN: usize = 24;
 
