@@ -16,14 +16,14 @@ ghost use Rattle.keeping.specs.Lent.{Lent};
 ghost use Rattle.ask.specs.Reading.{Inside};
 
 // A line's bytes, with its newline.
-const LINE_ROOM: usize = 16_384;
+const LINE_SIZE: usize = 16_384;
 
-const WORK_ROOM: usize = 2_097_152;
+const WORK_SIZE: usize = 2_097_152;
 
-const ROWS_ROOM: usize = 1_024;
+const ROWS_SIZE: usize = 1_024;
 
 // Bytes enough for any answer.
-const ANSWER_ROOM: usize = 16_384;
+const ANSWER_SIZE: usize = 16_384;
 
 // Of the bytes read, those from `from` to `to` are not served yet, and the line that they begin goes to `end`. It is long
 // if its start had no room and is dropped already. The input may be over, and it is too where it could not be read.
@@ -234,18 +234,18 @@ fn run(input: &mut [u8], work: &mut [u8], rows: &mut [u8], out: &mut [u8]) {
 
 // Lends the arrays as bytes.
 fn run_in(
-    input: &mut [u8; LINE_ROOM],
-    work: &mut [u8; WORK_ROOM],
-    rows: &mut [u8; ROWS_ROOM],
-    out: &mut [u8; ANSWER_ROOM],
+    input: &mut [u8; LINE_SIZE],
+    work: &mut [u8; WORK_SIZE],
+    rows: &mut [u8; ROWS_SIZE],
+    out: &mut [u8; ANSWER_SIZE],
 ) {
     run(input, work, rows, out);
 }
 
 fn main() {
-    let mut input = [0u8; LINE_ROOM];
-    let mut work = [0u8; WORK_ROOM];
-    let mut rows = [0u8; ROWS_ROOM];
-    let mut out = [0u8; ANSWER_ROOM];
+    let mut input = [0u8; LINE_SIZE];
+    let mut work = [0u8; WORK_SIZE];
+    let mut rows = [0u8; ROWS_SIZE];
+    let mut out = [0u8; ANSWER_SIZE];
     run_in(&mut input, &mut work, &mut rows, &mut out);
 }

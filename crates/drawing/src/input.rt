@@ -8,6 +8,7 @@ use rules::Rectangle;
 use rules::Rows;
 use rules::Shape;
 use words::count;
+use words::is_fine;
 use words::next_of;
 use words::number_in;
 use words::numbers_in;
@@ -17,7 +18,7 @@ ghost use Prim.Native.Nat.{_<_};
 ghost use Rattle.rules.specs.Design.{mostModules};
 
 // Bytes for the rows of any design.
-pub const ROWS_ROOM: usize = 4 * MOST_MODULES;
+pub const ROWS_SIZE: usize = 4 * MOST_MODULES;
 
 const MOST_BYTE: usize = 255;
 
@@ -42,7 +43,7 @@ pub fn header_in(line: &[u8]) -> Header {
     let named = svg || same(word(line, 0), b"text");
     let length = number_in(word(line, 1));
     Header {
-        good: named && length.good && count(line) == 2,
+        good: named && is_fine(length.why) && count(line) == 2,
         svg,
         length: length.n,
     }
@@ -51,8 +52,8 @@ pub fn header_in(line: &[u8]) -> Header {
 // The plan's answer in a line.
 pub fn plan_in(line: &[u8]) -> Plan {
     let mut said = [0usize; 3];
-    let numbers = numbers_in(b' ', words(line, 1, 3), &mut said)
-        || numbers_in(b' ', words(line, 1, 2), &mut said);
+    let numbers = is_fine(numbers_in(b' ', words(line, 1, 3), &mut said))
+        || is_fine(numbers_in(b' ', words(line, 1, 2), &mut said));
     let number = said[0];
     let many = if number == 0 { 4 } else { 3 };
     Plan {
@@ -64,7 +65,7 @@ pub fn plan_in(line: &[u8]) -> Plan {
 }
 
 // Stores a row for module k, if its numbers are bytes.
-fn store(rows: &mut [u8; ROWS_ROOM], k: usize, x: usize, y: usize, w: usize, h: usize) -> bool
+fn store(rows: &mut [u8; ROWS_SIZE], k: usize, x: usize, y: usize, w: usize, h: usize) -> bool
     requires { ⌜ k < mostModules ⌝ }
 {
     if x > MOST_BYTE {
@@ -92,14 +93,14 @@ fn store(rows: &mut [u8; ROWS_ROOM], k: usize, x: usize, y: usize, w: usize, h: 
 }
 
 // Stores the row of module k that a line says, `k x y w h`, if it says one.
-fn row_in(line: &[u8], k: usize, rows: &mut [u8; ROWS_ROOM]) -> bool
+fn row_in(line: &[u8], k: usize, rows: &mut [u8; ROWS_SIZE]) -> bool
     requires { ⌜ k < mostModules ⌝ }
 {
     if count(line) != 5 {
         return false;
     }
     let mut said = [0usize; 5];
-    if !numbers_in(b' ', line, &mut said) {
+    if !is_fine(numbers_in(b' ', line, &mut said)) {
         return false;
     }
     if said[0] != k {
@@ -109,7 +110,7 @@ fn row_in(line: &[u8], k: usize, rows: &mut [u8; ROWS_ROOM]) -> bool
 }
 
 // Stores the rows that a text says, a line for each module and nothing after them, if it says them so.
-pub fn rows_in(text: &[u8], modules: usize, rows: &mut [u8; ROWS_ROOM]) -> bool {
+pub fn rows_in(text: &[u8], modules: usize, rows: &mut [u8; ROWS_SIZE]) -> bool {
     let mut from = 0;
     for k in 0..MOST_MODULES {
         if k == modules {

@@ -5,13 +5,12 @@ mod refusing;
 
 use cellweaver::check;
 use cellweaver::read;
-use input::ROWS_ROOM;
+use input::ROWS_SIZE;
 use input::header_in;
 use input::plan_in;
 use input::rows_in;
 use libc::STDERR_FILENO;
-use libc::STDIN_FILENO;
-use pen::LINE_ROOM;
+use pen::LINE_SIZE;
 use refusing::refuse;
 use refusing::refuse_by;
 use refusing::unreadable;
@@ -24,11 +23,13 @@ use rules::Reply;
 use rules::Rows;
 use rules::Shape;
 use sketching::sketch;
+use taking::say_unread;
+use taking::take_all;
 use words::next_of;
 ghost use Rattle.blocks.specs.Drawable.{Drawable};
 
 // More bytes than a header, a design and a plan's text have.
-const INPUT_ROOM: usize = 8_192;
+const INPUT_SIZE: usize = 8_192;
 
 // Draws rows, as text or as SVG.
 fn draw_rows(line: &mut [u8], svg: bool, design: Design, rows: &[u8], size: Shape) -> bool
@@ -60,7 +61,7 @@ fn draw_stored(
     line: &mut [u8],
     svg: bool,
     design: Design,
-    rows: &[u8; ROWS_ROOM],
+    rows: &[u8; ROWS_SIZE],
     size: Shape,
 ) -> bool {
     let bytes: &[u8] = rows;
@@ -75,7 +76,7 @@ fn draw_plan(line: &mut [u8], svg: bool, bytes: &[u8], lines: &[u8], size: Shape
     if let Reply::Refused(e) = reply {
         return refuse_by(line, b"read", e);
     }
-    let mut rows = [0u8; ROWS_ROOM];
+    let mut rows = [0u8; ROWS_SIZE];
     if !rows_in(lines, design.modules, &mut rows) {
         return unreadable(line);
     }
@@ -122,9 +123,14 @@ pub fn draw(input: &[u8], line: &mut [u8]) -> bool {
 
 // Draws what standard input says. Where a line could not be written, the drawing lacks its last line, and that is said.
 pub fn run_draw() {
-    let mut input = [0u8; INPUT_ROOM];
-    let mut line = [0u8; LINE_ROOM];
-    let count = io::read_full(STDIN_FILENO, &mut input);
+    let mut input = [0u8; INPUT_SIZE];
+    let mut line = [0u8; LINE_SIZE];
+    let taken = take_all(&mut input);
+    if taken.failed {
+        say_unread();
+        return;
+    }
+    let count = taken.count;
     if !draw(&input[..count], &mut line) {
         io::write_all(STDERR_FILENO, b"draw: a line could not be written\n");
     }

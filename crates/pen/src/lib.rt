@@ -8,7 +8,7 @@ ghost use Prim.Native.Nat.{_≤_};
 ghost use lib.ListN.{length};
 
 // Bytes enough for any line.
-pub const LINE_ROOM: usize = 1_024;
+pub const LINE_SIZE: usize = 1_024;
 
 // How far the lines of words stand apart in an SVG, and how far from its left side.
 const LINE: usize = 18;
