@@ -10,6 +10,7 @@ use input::header_in;
 use input::plan_in;
 use input::rows_in;
 use libc::STDERR_FILENO;
+use libc::STDIN_FILENO;
 use pen::LINE_SIZE;
 use refusing::refuse;
 use refusing::refuse_by;
@@ -23,8 +24,6 @@ use rules::Reply;
 use rules::Rows;
 use rules::Shape;
 use sketching::sketch;
-use taking::say_unread;
-use taking::take_all;
 use words::next_of;
 ghost use Rattle.blocks.specs.Drawable.{Drawable};
 
@@ -125,12 +124,7 @@ pub fn draw(input: &[u8], line: &mut [u8]) -> bool {
 pub fn run_draw() {
     let mut input = [0u8; INPUT_SIZE];
     let mut line = [0u8; LINE_SIZE];
-    let taken = take_all(&mut input);
-    if taken.failed {
-        say_unread();
-        return;
-    }
-    let count = taken.count;
+    let count = io::read_full(STDIN_FILENO, &mut input);
     if !draw(&input[..count], &mut line) {
         io::write_all(STDERR_FILENO, b"draw: a line could not be written\n");
     }
