@@ -5,7 +5,7 @@ use Prim.Native.Nat.{ℕ}
 use native.Mathlib.Omega.{arith}
 use Rattle.rules.specs.declared.Design.{Design}
 use Rattle.rules.specs.declared.Refusal.{Refusal}
-use Rattle.rules.specs.declared.Refusal.the-variants.{Unfinished, Malformed, WrongForm, BreaksLimits, BadToken, NotOneThing, ExtraBytes, TooShort, Unreliable, NoPlacement, NoSuchEdit, OffTheChip, ShortOfNeed, CutNotKept}
+use Rattle.rules.specs.declared.Refusal.the-variants.{Unfinished, Malformed, WrongForm, BreaksLimits, BadToken, NotOneThing, ExtraBytes, TooShort, Unreliable, NoPlacement, NoSuchEdit, OffTheChip, ShortOfNeed, CutNotKept, BadTerm, BadNet}
 use Rattle.rules.specs.declared.Reply.the-variants.{Done, Refused}
 use Rattle.rules.specs.declared.Handed.{Handed}
 use Rattle.rules.specs.Design.{LawfulDesign}
@@ -32,6 +32,8 @@ refused-plainly NoSuchEdit = refl
 refused-plainly (OffTheChip k) = refl
 refused-plainly (ShortOfNeed k) = refl
 refused-plainly (CutNotKept t) = refl
+refused-plainly BadTerm = refl
+refused-plainly BadNet = refl
 
 pub said-refused : (e : Refusal) {n v : ℕ} → (n ≡ refusal e .number) × (v ≡ refusal e .value) → plainly n v ≡ refusal e
 said-refused e s = rw (s .0, s .1) (refused-plainly e)

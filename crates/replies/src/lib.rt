@@ -25,5 +25,7 @@ pub fn number_of(e: Refusal) -> Numbered
         Refusal::OffTheChip(k) => Numbered(12, k),
         Refusal::ShortOfNeed(k) => Numbered(13, k),
         Refusal::CutNotKept(t) => Numbered(14, t),
+        Refusal::BadTerm => Numbered(15, 0),
+        Refusal::BadNet => Numbered(16, 0),
     }
 }

@@ -10,6 +10,7 @@ pub mod Design
 pub mod Edit
 pub mod Bytes
 pub mod Check
+pub mod Score
 pub mod Reply
 pub mod Service
 pub mod Program

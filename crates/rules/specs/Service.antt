@@ -1,4 +1,4 @@
--- The seven services, rules 20 to 25 of docs/RULES.md: what each contract says of its reply and of every lent byte, for all
+-- The eight services, rules 20 to 25 and 32 of docs/RULES.md: what each contract says of its reply and of every lent byte, for all
 -- inputs. Each is said by its outcomes, in the order in which the refusals are given.
 use mathlib.Core.Path.{_≡_}
 use mathlib.Core.Logic.{_⊎_}
@@ -10,7 +10,7 @@ use Rattle.rules.specs.declared.Shape.{Shape}
 use Rattle.rules.specs.declared.Design.{Design}
 use Rattle.rules.specs.declared.Edit.{Edit}
 use Rattle.rules.specs.declared.Refusal.{Refusal}
-use Rattle.rules.specs.declared.Refusal.the-variants.{TooShort, Unreliable, NoPlacement, NoSuchEdit}
+use Rattle.rules.specs.declared.Refusal.the-variants.{TooShort, Unreliable, NoPlacement, NoSuchEdit, BadTerm, BadNet}
 use Rattle.rules.specs.declared.Reply.{Reply}
 use Rattle.rules.specs.declared.Reply.the-variants.{Done, Refused}
 use Rattle.rules.specs.declared.Handed.{Handed}
@@ -20,13 +20,17 @@ use Rattle.rules.specs.declared.Written.the-variants as written
 use Rattle.rules.specs.declared.Planned.{Planned}
 use Rattle.rules.specs.declared.Planned.the-variants.{Box}
 use Rattle.rules.specs.declared.Planned.the-variants as planned
+use Rattle.rules.specs.declared.Scored.{Scored}
+use Rattle.rules.specs.declared.Scored.the-variants.{Values}
+use Rattle.rules.specs.declared.Scored.the-variants as scored
 use Rattle.rules.specs.Placement.{Placement}
 use Rattle.rules.specs.Slot.{workNeeded, PastKept}
 use Rattle.rules.specs.Choice.{rowsOut}
 use Rattle.rules.specs.Design.{Sized, nodes, valueTest, LawfulDesign, slotsOf, AllStairs, OwnLists, GoesDown, widthOf, slotRows, NoShapeIn, ChosenIn}
 use Rattle.rules.specs.Edit.{namesPlace, changed, EditedLists}
 use Rattle.rules.specs.Bytes.{Took, took, refuse, designBytes, designAt, chipFrom, designFrom}
-use Rattle.rules.specs.Check.{verdict}
+use Rattle.rules.specs.Check.{fromRows, verdict}
+use Rattle.rules.specs.Score.{Cost, lawfulTerms, lawfulNets, scoreOf}
 
 -- read, rule 21. "The design that a refused reading hands back is all zeros."
 unfoldable pub zeros : Design
@@ -116,3 +120,17 @@ pub record Edits (d : Design) (e : Edit) (before : List ℕ) (r : Handed) (after
 pub record Checks (d : Design) (rows : List ℕ) (r : Reply) : Type 0 where
   pub sized : Sized d
   pub judged : r ≡ verdict d rows
+
+-- score, rule 32: "first all of the checker's own, then 15 .., then 16". Rows are only lent to be read.
+abbrev pub TermsLawful : Cost → Type 0
+TermsLawful c = So (lawfulTerms (c .terms) (c .termCount))
+
+abbrev pub NetsLawful : Design → Cost → Type 0
+NetsLawful d c = So (lawfulNets (d .modules) (c .nets) (c .netCount))
+
+pub record Scores (d : Design) (rows : List ℕ) (c : Cost) (r : Scored) : Type 0 where
+  pub sized : Sized d
+  pub judged : (e : Refusal) → verdict d rows ≡ Refused e → r ≡ scored.Refused e
+  pub bad-term : verdict d rows ≡ Done → (TermsLawful c → ⊥) → r ≡ scored.Refused BadTerm
+  pub bad-net : verdict d rows ≡ Done → TermsLawful c → (NetsLawful d c → ⊥) → r ≡ scored.Refused BadNet
+  pub done : verdict d rows ≡ Done → TermsLawful c → NetsLawful d c → r ≡ Values (scoreOf d (fromRows rows) c)

@@ -14,6 +14,11 @@ pub const MOST_TOKENS: usize = 2 * MOST_MODULES - 1;
 
 pub const MOST_NUMBER: usize = 65535;
 
+// The most terms and nets that a score is asked with.
+pub const MOST_TERMS: usize = 8;
+
+pub const MOST_NETS: usize = 32;
+
 // A number of columns: a width, or a place counted from the left. It never stands for rows.
 pub struct Columns(pub usize);
 
@@ -80,7 +85,20 @@ pub enum Edit {
     Turn { position: usize },
 }
 
-// Every refusal, in the order of the numbers 1 to 14. It holds a position among the bytes (1 to 7), a module (12, 13)
+// A term of the cost, with its weight.
+pub enum Term {
+    Area(f64),
+    Ratio(f64),
+    Wire(f64),
+}
+
+// A net: the modules that it joins. Places beyond count are ignored.
+pub struct Net {
+    pub count: usize,
+    pub modules: [u8; MOST_MODULES],
+}
+
+// Every refusal, in the order of the numbers 1 to 16. It holds a position among the bytes (1 to 7), a module (12, 13)
 // or a token's position (14), where there is one.
 pub enum Refusal {
     Unfinished(usize),
@@ -97,6 +115,8 @@ pub enum Refusal {
     OffTheChip(usize),
     ShortOfNeed(usize),
     CutNotKept(usize),
+    BadTerm,
+    BadNet,
 }
 
 // The answer of list and check, and of the value test; with a design beside it, of read and edit.
@@ -120,5 +140,17 @@ pub enum Written {
 // The answer of plan and place: the box, or why there is none.
 pub enum Planned {
     Box(Shape),
+    Refused(Refusal),
+}
+
+// A score: the running total, and the amount of the last term.
+pub struct Score {
+    pub total: f64,
+    pub last: f64,
+}
+
+// The answer of score: both values, or why there are none.
+pub enum Scored {
+    Values(Score),
     Refused(Refusal),
 }
