@@ -17,8 +17,9 @@ use Rattle.rules.specs.Check.{isKept}
 use Rattle.rules.proofs.Searching.{or-iff, leb-iff, same-test}
 use Rattle.rules.proofs.Placing.{furthest-within, furthest-reaches}
 use Rattle.rules.proofs.Checking.{kept-iff}
-use Rattle.checker.specs.declared.Extent.{Extent}
-use Rattle.checker.specs.Cuts.{extent, extentOf, together, endsBefore}
+use Rattle.extents.specs.declared.Extent.{Extent}
+use Rattle.extents.specs.Sides.{extent, extentOf, together}
+use Rattle.checker.specs.Cuts.{endsBefore}
 
 -- the nearest side of a tree's rectangles
 unfoldable pub nearest : (Rectangle → ℕ) → Tree → Placement → ℕ

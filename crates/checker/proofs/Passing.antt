@@ -21,7 +21,7 @@ use Rattle.rules.proofs.Searching.{or-iff}
 use Rattle.rules.proofs.Standing.{part-has, Reading, module-read, cut-read, earlier, read-stands}
 use Rattle.rules.proofs.Nodes.{lawful-tree, node-part}
 use Rattle.rules.proofs.Limits.{limits}
-use Rattle.checker.specs.declared.Extent.{Extent}
+use Rattle.extents.specs.declared.Extent.{Extent}
 use Rattle.checker.specs.declared.Pass.{Pass}
 use Rattle.checker.specs.Cuts.{nowhere, atStart, afterToken, Ready}
 use Rattle.checker.proofs.Extents.{treeExtent, leaf-extent, cut-extent, kept-by-extents}

@@ -1,31 +1,18 @@
 -- The pass over the tokens: the extents of the things that stand, and whether each cut is kept.
 use mathlib.Core.Bool.{Bool, true}
 use mathlib.Core.List.{List}
-use Prim.Native.Nat.{ℕ, _+_, _-_, _*_, _≤_, _<_, min, max}
+use Prim.Native.Nat.{ℕ, _+_, _-_, _*_, _≤_, _<_}
 use lib.Dec.{leb}
 use lib.ListN.{length, getD, set, replicate}
-use Rattle.rules.specs.declared.Rectangle.{Rectangle}
 use Rattle.rules.specs.declared.Direction.{Direction}
 use Rattle.rules.specs.declared.Token.{Token}
 use Rattle.rules.specs.declared.Token.the-variants.{Cut, Module, Beyond}
-use Rattle.rules.specs.Chip.{corner, left, right, bottom, top}
 use Rattle.rules.specs.Placement.{Placement}
 use Rattle.rules.specs.Design.{mostTokens}
 use Rattle.rules.proofs.Test.{across}
-use Rattle.checker.specs.declared.Extent.{Extent}
+use Rattle.extents.specs.declared.Extent.{Extent}
+use Rattle.extents.specs.Sides.{extent, extentOf, together}
 use Rattle.checker.specs.declared.Pass.{Pass}
-
--- an extent by its four sides; a rectangle's; that of two things together
-abbrev pub extent : ℕ → ℕ → ℕ → ℕ → Extent
-extent a c b d = record { low = corner a c; far = corner b d }
-
-abbrev pub extentOf : Rectangle → Extent
-extentOf r = extent (left r) (bottom r) (right r) (top r)
-
-abbrev pub together : Extent → Extent → Extent
-together l r =
-    extent (min (l .low .x .0) (r .low .x .0)) (min (l .low .y .0) (r .low .y .0))
-    (max (l .far .x .0) (r .far .x .0)) (max (l .far .y .0) (r .far .y .0))
 
 -- one thing ends at or before the place where the other begins
 abbrev pub endsBefore : Direction → Extent → Extent → Bool

@@ -1,4 +1,7 @@
 // The checker's judgement of a floorplan: from the design and the rows alone, with no lists.
+use extents::Extent;
+use extents::extent_of;
+use extents::together;
 use holding::suits;
 use rows::rectangle_at;
 use rules::Columns;
@@ -13,19 +16,13 @@ use rules::Rows;
 use rules::Token;
 use tokens::token_of;
 ghost use mathlib.Core.Path.{_≡_};
-ghost use Prim.Native.Nat.{_+_, _*_, _-_, _≤_, _<_, min, max};
+ghost use Prim.Native.Nat.{_+_, _*_, _-_, _≤_, _<_};
 ghost use lib.ListN.{length};
 ghost use Rattle.rules.specs.Design.{mostModules, LawfulDesign, mostTokens};
 ghost use Rattle.rules.specs.Check.{fromRows, isOnChip, judgedCuts, judgedRows};
 ghost use Rattle.rows.specs.Row.{Bytes};
 ghost use Rattle.checker.specs.Modules.{judgedModule};
-ghost use Rattle.checker.specs.Cuts.{extentOf, together, endsBefore, atStart, afterModule, afterCut, afterToken, Ready};
-
-// The sides of what lies below a node: the least left and bottom, the greatest right and top of its modules' rectangles.
-struct Extent {
-    pub low: Corner,
-    pub far: Corner,
-}
+ghost use Rattle.checker.specs.Cuts.{endsBefore, atStart, afterModule, afterCut, afterToken, Ready};
 
 // A pass over the tokens: the extents of the things standing, how many there are, and whether the last cut was kept.
 struct Pass {
@@ -64,62 +61,6 @@ fn judge_module(d: Design, rows: &[u8], k: usize) -> Reply
         return Reply::Refused(Refusal::ShortOfNeed(k));
     }
     Reply::Done
-}
-
-// The lesser of two left sides.
-fn leftmost(a: Columns, b: Columns) -> Columns
-    ensures { λ r. ⌜ r .0 ≡ min (a .0) (b .0) ⌝ }
-{
-    if a.0 < b.0 { a } else { b }
-}
-
-// The lesser of two bottom sides.
-fn lowest(a: Rows, b: Rows) -> Rows
-    ensures { λ r. ⌜ r .0 ≡ min (a .0) (b .0) ⌝ }
-{
-    if a.0 < b.0 { a } else { b }
-}
-
-// The greater of two right sides.
-fn rightmost(a: Columns, b: Columns) -> Columns
-    ensures { λ r. ⌜ r .0 ≡ max (a .0) (b .0) ⌝ }
-{
-    if a.0 < b.0 { b } else { a }
-}
-
-// The greater of two top sides.
-fn highest(a: Rows, b: Rows) -> Rows
-    ensures { λ r. ⌜ r .0 ≡ max (a .0) (b .0) ⌝ }
-{
-    if a.0 < b.0 { b } else { a }
-}
-
-// The extent of a module's rectangle.
-fn extent_of(r: Rectangle) -> Extent
-    requires { ⌜ Bytes r ⌝ }
-    ensures { λ e. ⌜ e ≡ extentOf r ⌝ }
-{
-    let low = r.corner;
-    let far = Corner {
-        x: Columns(r.corner.x.0 + r.shape.w.0),
-        y: Rows(r.corner.y.0 + r.shape.h.0),
-    };
-    Extent { low, far }
-}
-
-// The extent of two things together.
-fn together(l: Extent, r: Extent) -> Extent
-    ensures { λ e. ⌜ e ≡ together l r ⌝ }
-{
-    let low = Corner {
-        x: leftmost(l.low.x, r.low.x),
-        y: lowest(l.low.y, r.low.y),
-    };
-    let far = Corner {
-        x: rightmost(l.far.x, r.far.x),
-        y: highest(l.far.y, r.far.y),
-    };
-    Extent { low, far }
 }
 
 // The left child ends at or before the place where the right child begins.

@@ -1,8 +1,8 @@
--- `checker::together` meets its contract, side by side.
+-- `extents::together` meets its contract, side by side.
 -- Assumes nothing.
 use borrow.Author.Needs.{needs}
-use Rattle.checker.proofs.together.Statement.{statement}
-use Rattle.checker.proofs.together.Tie as tie
+use Rattle.extents.proofs.together.Statement.{statement}
+use Rattle.extents.proofs.together.Tie as tie
 
 leftmost-requires : tie.Need-leftmost-requires
 leftmost-requires c κs = search needs

@@ -1,0 +1,2 @@
+-- Extents by their sides.
+pub mod Sides
