@@ -39,3 +39,4 @@ pub mod Same
 pub mod Carrying
 pub mod Figures
 pub mod Bench
+pub mod Floats
