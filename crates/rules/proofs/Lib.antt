@@ -40,3 +40,4 @@ pub mod Carrying
 pub mod Figures
 pub mod Bench
 pub mod Floats
+pub mod Scoring
