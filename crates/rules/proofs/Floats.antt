@@ -3,7 +3,7 @@
 use mathlib.Core.Path.{_≡_, refl, sym, _∙_, ap, subst}
 use mathlib.Core.Logic.{_⊎_, inl, inr}
 use mathlib.Core.Bool.{Bool, true, false, _&&_, _||_, cond, So, true≢false, false≢true}
-use Prim.Native.Nat.{ℕ, suc, _+_, _-_, _*_, _^_, _≤_, _<_}
+use Prim.Native.Nat.{ℕ, suc, _+_, _-_, _*_, _^_, _≤_, _<_, zero-le}
 use native.Mathlib.Omega.{arith}
 use native.Mathlib.Nat.{le-trans, le-of-eq, eq-zero-or-pos, mul-one, zero-mul, mul-comm, mul-assoc, mul-pos, mul-le-mul, mul-le-mul-right, mul-mul-mul-comm, add-mul}
 use lib.Dec.{T, ltb, eqb, ltb→lt, eqb→eq, lit≤}
@@ -129,29 +129,48 @@ value-up-to n (fin s m e) v = (v .0, le-of-eq (sym (mul-one (m * up e)) ∙ v .1
 pub exact-up-to : (n : ℕ) → n ≤ 2 ^ 53 → UpTo n (exact n)
 exact-up-to n h = value-up-to n (exact n) (exact-value n h)
 
--- ---- a quotient of whole numbers, not by zero
-over-fraction : (n w h d e : ℕ) → 1 ≤ h → w ≤ n → w * e * d ≤ n * (h * d * e)
-over-fraction n w h d e H W =
-    let g : w ≤ n * h = rw mul-one at (mul-le-mul W H) in
-    le-trans (le-of-eq (mul-assoc w e d)) (le-trans (mul-le-mul-right (e * d) g) (le-of-eq (simp (mul-assoc, mul-comm))))
+-- ---- a quotient: by what is 1 at least, an infinity included
+abbrev FromOne : Float → Type 0
+FromOne nan = ⊥
+FromOne (inf s) = s ≡ false
+FromOne (fin s m e) = (s ≡ false) × (down e ≤ m * up e)
 
-over-values : (n w h : ℕ) (x y : Float) → 1 ≤ h → w ≤ n → n ≤ 2 ^ 53 → HasValue x false w 1 → HasValue y false h 1 → UpTo n (over x y)
+not-below-one : (x y : Float) → HasValue x false 1 1 → HasSign false y → T (le x y) → FromOne y
+unfolding le
+not-below-one nan y v s h = absurd v
+not-below-one (inf t) y v s h = absurd v
+not-below-one (fin true m e) y v s h = absurd (true≢false (v .0))
+not-below-one (fin false m e) nan v s h = absurd s
+not-below-one (fin false m e) (inf t) v s h = s
+not-below-one (fin false m e) (fin true k d) v s h = absurd (true≢false s)
+not-below-one (fin false m e) (fin false k d) v s h =
+    let c = lt-or-eq (m * up e * down d) (k * up d * down e) h in
+    let q = through 1 (m * up e) (k * up d) 1 (down e) (down d) (down-pos e) (le-of-eq (sym (v .1))) c in (refl, omega arith)
+
+exact-from-one : (n : ℕ) → 1 ≤ n → FromOne (exact n)
+unfolding ofInt
+exact-from-one n h =
+    not-below-one (round binary64 false 1 1) (round binary64 false n 1) (round-whole binary64 false 1 (lit≤ tt)) (round-sign binary64 false n 1)
+    (round-mono binary64 1 1 n 1 (lit≤ tt) (lit≤ tt) (omega arith))
+
+over-from-one : (n : ℕ) (x y : Float) → n ≤ 2 ^ 53 → UpTo n x → FromOne y → UpTo n (over x y)
 unfolding div
-over-values n w h nan y H W N v u = absurd v
-over-values n w h (inf s) y H W N v u = absurd v
-over-values n w h (fin true m e) y H W N v u = absurd (true≢false (v .0))
-over-values n w h (fin false m e) nan H W N v u = absurd u
-over-values n w h (fin false m e) (inf t) H W N v u = absurd u
-over-values n w h (fin false m e) (fin true k d) H W N v u = absurd (true≢false (u .0))
-over-values n w h (fin false m e) (fin false k d) H W N v u =
-    let x : m * up e ≡ w * down e = sym (mul-one (m * up e)) ∙ v .1 in
-    let y : k * up d ≡ h * down d = sym (mul-one (k * up d)) ∙ u .1 in
-    let some : 0 < k * up d = rw y (mul-pos H (down-pos d)) in let K = first-pos k (up d) some in
+over-from-one n nan y N u v = absurd u
+over-from-one n (inf s) y N u v = absurd u
+over-from-one n (fin true m e) y N u v = absurd (true≢false (u .0))
+over-from-one n (fin false m e) nan N u v = absurd v
+over-from-one n (fin false m e) (inf true) N u v = absurd (true≢false v)
+over-from-one n (fin false m e) (inf false) N u v = (refl, zero-le)
+over-from-one n (fin false m e) (fin true k d) N u v = absurd (true≢false (v .0))
+over-from-one n (fin false m e) (fin false k d) N u v =
+    let some : 0 < k * up d = le-trans (down-pos d) (v .1) in let K = first-pos k (up d) some in
     rw (ne-eqb k 0 (λ z. omega arith))
-    (round-up-to n (m * up e * down d) (k * up d * down e) (mul-pos some (down-pos e)) N (rw (x, y) (over-fraction n w h (down d) (down e) H W)))
+    (round-up-to n (m * up e * down d) (k * up d * down e) (mul-pos some (down-pos e)) N
+    (le-trans (mul-le-mul (u .1) (v .1)) (le-of-eq (mul-assoc n (down e) (k * up d) ∙ ap (λ z. n * z) (mul-comm (down e) (k * up d))))))
 
-pub over-up-to : (n w h : ℕ) → 1 ≤ h → h ≤ 2 ^ 53 → w ≤ n → n ≤ 2 ^ 53 → UpTo n (over (exact w) (exact h))
-over-up-to n w h H L W N = over-values n w h (exact w) (exact h) H W N (exact-value w (le-trans W N)) (exact-value h L)
+pub over-up-to : (n w h : ℕ) → 1 ≤ h → w ≤ n → n ≤ 2 ^ 53 → UpTo n (over (exact w) (exact h))
+over-up-to n w h H W N =
+    over-from-one n (exact w) (exact h) N (up-to-more w n (exact w) W (exact-up-to w (le-trans W N))) (exact-from-one h H)
 
 -- ---- a sum
 plus-fraction : (a b m e n d : ℕ) → m ≤ a * e → n ≤ b * d → m * d + n * e ≤ (a + b) * (e * d)
@@ -172,7 +191,7 @@ plus-nearly a b (fin false m e) (fin false n d) N u v =
     (plus-fraction a b (m * up e) (down e) (n * up d) (down d) (u .1) (v .1))
 plus-nearly a b (fin false m e) (fin true n d) N u v =
     let z : n * up d * down e ≡ 0 = rw (v .0 refl) (simp zero-mul) in
-    let le = plus-fraction a b (m * up e) (down e) (n * up d) (down d) (u .1) (v .1) in
+    let both = plus-fraction a b (m * up e) (down e) (n * up d) (down d) (u .1) (v .1) in
     rw (le-ltb (m * up e * down d) (n * up d * down e) (omega arith))
     (round-up-to (a + b) (m * up e * down d - n * up d * down e) (down e * down d) (mul-pos (down-pos e) (down-pos d)) N (omega arith))
 
@@ -216,6 +235,6 @@ passed b t = subst T (sym t) tt
 pub weight-nearly : (w : Float) → So (lawfulWeight w) → NearlyUpTo mostWeight w
 unfolding lawfulWeight
 weight-nearly w t =
-    let (low, high) = and-iff (le (exact 0) w) (le w (exact mostWeight)) .0 t in
+    let (above, below) = and-iff (le (exact 0) w) (le w (exact mostWeight)) .0 t in
     weight-between mostWeight (exact 0) w (exact mostWeight) (exact-value 0 (lit≤ tt)) (exact-value mostWeight (lit≤ tt))
-    (passed (le (exact 0) w) low) (passed (le w (exact mostWeight)) high)
+    (passed (le (exact 0) w) above) (passed (le w (exact mostWeight)) below)
