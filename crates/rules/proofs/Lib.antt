@@ -40,4 +40,6 @@ pub mod Carrying
 pub mod Figures
 pub mod Bench
 pub mod Floats
+pub mod Greatest
 pub mod Scoring
+pub mod Costs

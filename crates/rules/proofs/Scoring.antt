@@ -1,16 +1,12 @@
 -- What a score is, of rectangles on the chip. The box stands on the chip, and so do the doubled centres: area and wire are small whole
 -- numbers, each module adds two small quotients to the ratio, and no sum of terms comes near 2 to the 53, where exactness ends.
--- Same designs and same costs have the same score, and a net's half perimeter hangs on which modules it names alone. Assumes nothing.
-use mathlib.Core.Path.{_≡_, refl, sym, _∙_}
-use mathlib.Core.Logic.{inl, inr}
+-- Assumes nothing.
 use mathlib.Core.Bool.{So}
 use mathlib.Core.List.{List}
-use Prim.Native.Nat.{ℕ, zero, suc, _+_, _-_, _*_, _≤_, _<_, min, max, zero-le}
+use Prim.Native.Nat.{ℕ, zero, suc, _+_, _-_, _*_, _≤_, _<_, max, zero-le}
 use native.Mathlib.Omega.{arith}
-use native.Mathlib.Nat.{le-trans, le-refl, le-antisymm, max-le, mul-le-mul, suc-mul, add-le-add}
-use native.Mathlib.Decide.{ℕ-discrete}
-use lib.Dec.{ltb, lit≤}
-use Rattle.rules.specs.declared.Rectangle.{Rectangle}
+use native.Mathlib.Nat.{le-trans, le-refl, mul-le-mul, suc-mul, add-le-add}
+use lib.Dec.{lit≤}
 use Rattle.rules.specs.declared.Design.{Design}
 use Rattle.rules.specs.declared.Direction.{Direction}
 use Rattle.rules.specs.declared.Direction.the-variants.{Vertical, Horizontal}
@@ -18,53 +14,33 @@ use Rattle.rules.specs.declared.Term.{Term}
 use Rattle.rules.specs.declared.Term.the-variants.{Area, Ratio, Wire}
 use Rattle.rules.specs.declared.Net.{Net}
 use Rattle.rules.specs.Chip.{OnChip, right, top}
-use Rattle.rules.specs.Tree.{Tree, leaf, cut, has}
-use Rattle.rules.specs.Placement.{Placement, furthest}
-use Rattle.rules.specs.Design.{mostColumns, mostRows, mostModules, inRange, root, widthOf, heightOf, LawfulDesign, SameDesign}
-use Rattle.rules.specs.Score.{plus, times, over, exact, mostTerms, mostNets, mostWeight, Cost, termAt, netAt, memberAt, weightOf, lawfulWeight, lawfulTerms, lawfulNet, lawfulNets, areaOf, ratioOf, greatestTo, leastTo, centresOf, spread, halfPerimeter, wireOf, amountOf, scoreAfter, scoreOf, SameNet, SameCost}
-use Rattle.rules.proofs.Searching.{or-iff, eqb-iff, test-iffs, all-iff}
-use Rattle.rules.proofs.Below.{all-below}
+use Rattle.rules.specs.Placement.{Placement}
+use Rattle.rules.specs.Design.{mostColumns, mostRows, mostModules, inRange, root, widthOf, heightOf, LawfulDesign}
+use Rattle.rules.specs.Score.{plus, times, over, exact, mostTerms, mostNets, mostWeight, Cost, termAt, netAt, memberAt, weightOf, lawfulWeight, lawfulTerms, lawfulNet, lawfulNets, areaOf, ratioOf, centresOf, spread, halfPerimeter, wireOf, amountOf, scoreAfter, scoreOf}
+use Rattle.rules.proofs.Searching.{test-iffs, all-iff}
+use Rattle.rules.proofs.Placing.{furthest-within}
 use Rattle.rules.proofs.Nodes.{lawful-tree}
 use Rattle.rules.proofs.Limits.{limits}
-use Rattle.rules.proofs.Same.{root-same}
+use Rattle.rules.proofs.Greatest.{greatest-most, least-most}
 use Rattle.rules.proofs.Floats.{UpTo, up-to-more, exact-up-to, over-up-to, plus-up-to, plus-nearly, times-nearly, weight-nearly}
 
 -- every module's rectangle is on the chip
 abbrev pub AllOnChip : Design → Placement → Type 0
 AllOnChip d p = (k : ℕ) → k < d .modules → OnChip (widthOf d) (heightOf d) (p k)
 
--- ---- the area: no rectangle of the tree ends beyond a bound, so the furthest does not
-furthest-most : (side : Rectangle → ℕ) (t : Tree) (p : Placement) (n : ℕ)
-    → ((k : ℕ) → So (has t k) → side (p k) ≤ n) → furthest side t p ≤ n
-unfolding furthest has
-furthest-most side (leaf t k) p n h = h k (eqb-iff k k .1 refl)
-furthest-most side (cut t d l r) p n h = max-le
-    (furthest-most side l p n (λ k s. h k (or-iff (has l k) (has r k) .1 (inl s))))
-    (furthest-most side r p n (λ k s. h k (or-iff (has l k) (has r k) .1 (inr s))))
-
+-- ---- the area: no rectangle ends beyond the chip, so the furthest does not
 pub area-within : (d : Design) → LawfulDesign d → (p : Placement) → AllOnChip d p → areaOf d p ≤ widthOf d * heightOf d
 unfolding areaOf
 area-within d l p on =
     let below = lawful-tree d l .modules in
     mul-le-mul
-    (furthest-most right (root d) p (widthOf d) (λ k s. on k (below k .0 s) .columns))
-    (furthest-most top (root d) p (heightOf d) (λ k s. on k (below k .0 s) .rows))
+    (furthest-within right (root d) p (widthOf d) (λ k s. on k (below k .0 s) .columns))
+    (furthest-within top (root d) p (heightOf d) (λ k s. on k (below k .0 s) .rows))
 
 pub area-most : (d : Design) → LawfulDesign d → (p : Placement) → AllOnChip d p → areaOf d p ≤ mostColumns * mostRows
 area-most d l p on = let c = limits d l .chip in le-trans (area-within d l p on) (mul-le-mul (c .width) (c .height))
 
--- ---- the wire: the greatest and the least of some numbers lie within any bounds that these have
-greatest-most : (n : ℕ) (g : ℕ → ℕ) (b : ℕ) → ((i : ℕ) → i ≤ n → g i ≤ b) → greatestTo n g ≤ b
-unfolding greatestTo
-greatest-most zero g b h = h 0 (le-refl 0)
-greatest-most (suc n) g b h = max-le (greatest-most n g b (λ i k. h i (omega arith))) (h (suc n) (le-refl (suc n)))
-
-least-most : (n : ℕ) (g : ℕ → ℕ) (b : ℕ) → ((i : ℕ) → i ≤ n → b ≤ g i) → b ≤ leastTo n g
-unfolding leastTo
-least-most zero g b h = h 0 (le-refl 0)
-least-most (suc n) g b h =
-    let a = least-most n g b (λ i k. h i (omega arith)) in let c = h (suc n) (le-refl (suc n)) in omega arith
-
+-- ---- the wire
 -- a lawful net has a member, and each is a module
 pub record NetLimits (m : ℕ) (net : Net) : Type 0 where
   pub some : 1 ≤ net .count
@@ -182,103 +158,3 @@ module _ (d : Design) (lawful : LawfulDesign d) (p : Placement) (on : AllOnChip 
     score-finite =
         let z = terms-limits (c .terms) (c .termCount) terms in let (total, last) = score-to (c .termCount) (le-refl (c .termCount)) in
         (up-to-more (c .termCount * mostAdded) (mostTerms * mostAdded) (scoreOf d p c .total) (omega arith) total, last)
-
--- ---- the greatest and the least are among the numbers, so where each of some numbers is one of others, the others reach as far
-greatest-in : (n : ℕ) (g : ℕ → ℕ) (i : ℕ) → i ≤ n → g i ≤ greatestTo n g
-unfolding greatestTo
-greatest-in zero g i h = let e : i ≡ 0 = omega arith in rw e (le-refl (g 0))
-greatest-in (suc n) g i h = go (ℕ-discrete i (suc n)) (greatest-in n g i)
-  where
-    go : Dec (i ≡ suc n) → (i ≤ n → g i ≤ greatestTo n g) → g i ≤ max (greatestTo n g) (g (suc n))
-    go (yes e) ih = rw e (omega arith)
-    go (no e) ih = let k = ih (omega arith) in omega arith
-
-least-in : (n : ℕ) (g : ℕ → ℕ) (i : ℕ) → i ≤ n → leastTo n g ≤ g i
-unfolding leastTo
-least-in zero g i h = let e : i ≡ 0 = omega arith in rw e (le-refl (g 0))
-least-in (suc n) g i h = go (ℕ-discrete i (suc n)) (least-in n g i)
-  where
-    go : Dec (i ≡ suc n) → (i ≤ n → leastTo n g ≤ g i) → min (leastTo n g) (g (suc n)) ≤ g i
-    go (yes e) ih = rw e (omega arith)
-    go (no e) ih = let k = ih (omega arith) in omega arith
-
--- every member of a is a member of b
-abbrev pub Names : Net → Net → Type 0
-Names a b = (i : ℕ) → i < a .count → (j : ℕ) × (j < b .count) × (memberAt a i ≡ memberAt b j)
-
-module _ (x : Direction) (p : Placement) (a b : Net) (some : 1 ≤ a .count) (names : Names a b) where
-  greatest-names : greatestTo (a .count - 1) (centresOf x p a) ≤ greatestTo (b .count - 1) (centresOf x p b)
-  greatest-names = greatest-most (a .count - 1) (centresOf x p a) _ (λ i h.
-      let (j, k, q) = names i (omega arith) in rw q (greatest-in (b .count - 1) (centresOf x p b) j (omega arith)))
-
-  least-names : leastTo (b .count - 1) (centresOf x p b) ≤ leastTo (a .count - 1) (centresOf x p a)
-  least-names = least-most (a .count - 1) (centresOf x p a) _ (λ i h.
-      let (j, k, q) = names i (omega arith) in rw q (least-in (b .count - 1) (centresOf x p b) j (omega arith)))
-
-spread-same : (x : Direction) (p : Placement) (a b : Net) → 1 ≤ a .count → 1 ≤ b .count → Names a b → Names b a → spread x p a ≡ spread x p b
-unfolding spread
-spread-same x p a b s t f g =
-    let most = le-antisymm (greatest-names x p a b s f) (greatest-names x p b a t g) in
-    let least = le-antisymm (least-names x p b a t g) (least-names x p a b s f) in rw (most, least)
-
--- nets that name the same modules, in any order and as often as they like, have the same half perimeter
-pub named-twice : (p : Placement) (a b : Net) → 1 ≤ a .count → 1 ≤ b .count → Names a b → Names b a → halfPerimeter p a ≡ halfPerimeter p b
-named-twice p a b s t f g = rw (spread-same Vertical p a b s t f g, spread-same Horizontal p a b s t f g)
-
--- ---- same costs
-names-same : {a b : Net} → SameNet a b → Names a b
-names-same z i h = (i, rw (z .count) at h, z .members i h)
-
-net-sym : {a b : Net} → SameNet a b → SameNet b a
-net-sym z = record { count = sym (z .count); members = λ j h. sym (z .members j (rw (z .count) h)) }
-
-perimeter-same : (p : Placement) (a b : Net) → SameNet a b → 1 ≤ a .count → halfPerimeter p a ≡ halfPerimeter p b
-perimeter-same p a b z s = named-twice p a b s (rw (z .count) at s) (names-same z) (names-same (net-sym z))
-
-wire-same : (p : Placement) (m : ℕ) (nets nets' : List Net) (n : ℕ) → ((i : ℕ) → i < n → SameNet (netAt nets i) (netAt nets' i))
-    → ((i : ℕ) → i < n → NetLimits m (netAt nets i)) → wireOf p nets n ≡ wireOf p nets' n
-unfolding wireOf
-wire-same p m nets nets' zero z l = refl
-wire-same p m nets nets' (suc n) z l =
-    let rest = wire-same p m nets nets' n (λ i h. z i (omega arith)) (λ i h. l i (omega arith)) in
-    let h = le-refl (suc n) in rw (rest, perimeter-same p (netAt nets n) (netAt nets' n) (z n h) (l n h .some))
-
-net-same : (m : ℕ) (a b : Net) → SameNet a b → lawfulNet m a ≡ lawfulNet m b
-unfolding lawfulNet
-net-same m a b z =
-    let each = all-below (a .count) (λ j. ltb (memberAt a j) m) (λ j. ltb (memberAt b j) m) (λ j h. rw (z .members j h)) in
-    rw (each, z .count)
-
-module _ {a b : Cost} (z : SameCost a b) where
-  pub terms-same : lawfulTerms (a .terms) (a .termCount) ≡ lawfulTerms (b .terms) (b .termCount)
-  unfolding lawfulTerms
-  terms-same =
-      let each = all-below (a .termCount) (λ i. lawfulWeight (weightOf (termAt (a .terms) i))) (λ i. lawfulWeight (weightOf (termAt (b .terms) i)))
-      (λ i h. rw (z .terms i h)) in
-      rw (each, z .termCount)
-
-  module _ {d e : Design} (y : SameDesign d e) where
-    pub nets-same : lawfulNets (d .modules) (a .nets) (a .netCount) ≡ lawfulNets (e .modules) (b .nets) (b .netCount)
-    unfolding lawfulNets
-    nets-same =
-        let m = d .modules in
-        let each = all-below (a .netCount) (λ i. lawfulNet m (netAt (a .nets) i)) (λ i. lawfulNet m (netAt (b .nets) i))
-        (λ i h. net-same m (netAt (a .nets) i) (netAt (b .nets) i) (z .nets i h)) in
-        rw (each, z .netCount, y .modules)
-
-    module _ (p : Placement) (nets : So (lawfulNets (d .modules) (a .nets) (a .netCount))) where
-      amount-same : (t : Term) → amountOf d p a t ≡ amountOf e p b t
-      unfolding areaOf
-      amount-same (Area w) = rw (root-same y)
-      amount-same (Ratio w) = rw (y .modules)
-      amount-same (Wire w) =
-          let l = nets-limits (d .modules) (a .nets) (a .netCount) nets .each in
-          rw (wire-same p (d .modules) (a .nets) (b .nets) (a .netCount) (z .nets) l, z .netCount)
-
-      after-same : (n : ℕ) → n ≤ a .termCount → scoreAfter d p a n ≡ scoreAfter e p b n
-      unfolding scoreAfter
-      after-same zero h = refl
-      after-same (suc n) h = rw (after-same n (omega arith), z .terms n h, amount-same (termAt (b .terms) n))
-
-      pub score-same : scoreOf d p a ≡ scoreOf e p b
-      score-same = after-same (a .termCount) (le-refl (a .termCount)) ∙ rw (z .termCount)

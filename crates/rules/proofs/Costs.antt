@@ -1,0 +1,103 @@
+-- Costs that agree at all places that count have the same score, and so have same designs. A net's half perimeter hangs on which modules it
+-- names alone: the greatest and the least centre are those of a member. Assumes nothing.
+use mathlib.Core.Path.{_≡_, refl, sym, _∙_}
+use mathlib.Core.Bool.{So}
+use mathlib.Core.List.{List}
+use Prim.Native.Nat.{ℕ, zero, suc, _-_, _≤_, _<_}
+use native.Mathlib.Omega.{arith}
+use native.Mathlib.Nat.{le-refl, le-antisymm}
+use lib.Dec.{ltb}
+use Rattle.rules.specs.declared.Design.{Design}
+use Rattle.rules.specs.declared.Direction.{Direction}
+use Rattle.rules.specs.declared.Direction.the-variants.{Vertical, Horizontal}
+use Rattle.rules.specs.declared.Term.{Term}
+use Rattle.rules.specs.declared.Term.the-variants.{Area, Ratio, Wire}
+use Rattle.rules.specs.declared.Net.{Net}
+use Rattle.rules.specs.Placement.{Placement}
+use Rattle.rules.specs.Design.{SameDesign}
+use Rattle.rules.specs.Score.{Cost, termAt, netAt, memberAt, weightOf, lawfulWeight, lawfulTerms, lawfulNet, lawfulNets, areaOf, greatestTo, leastTo, centresOf, spread, halfPerimeter, wireOf, amountOf, scoreAfter, scoreOf, SameNet, SameCost}
+use Rattle.rules.proofs.Below.{all-below}
+use Rattle.rules.proofs.Same.{root-same}
+use Rattle.rules.proofs.Greatest.{greatest-most, least-most, greatest-in, least-in}
+use Rattle.rules.proofs.Scoring.{NetLimits, nets-limits}
+
+-- every member of a is a member of b
+abbrev pub Names : Net → Net → Type 0
+Names a b = (i : ℕ) → i < a .count → (j : ℕ) × (j < b .count) × (memberAt a i ≡ memberAt b j)
+
+module _ (x : Direction) (p : Placement) (a b : Net) (some : 1 ≤ a .count) (names : Names a b) where
+  greatest-names : greatestTo (a .count - 1) (centresOf x p a) ≤ greatestTo (b .count - 1) (centresOf x p b)
+  greatest-names = greatest-most (a .count - 1) (centresOf x p a) _ (λ i h.
+      let (j, k, q) = names i (omega arith) in rw q (greatest-in (b .count - 1) (centresOf x p b) j (omega arith)))
+
+  least-names : leastTo (b .count - 1) (centresOf x p b) ≤ leastTo (a .count - 1) (centresOf x p a)
+  least-names = least-most (a .count - 1) (centresOf x p a) _ (λ i h.
+      let (j, k, q) = names i (omega arith) in rw q (least-in (b .count - 1) (centresOf x p b) j (omega arith)))
+
+spread-same : (x : Direction) (p : Placement) (a b : Net) → 1 ≤ a .count → 1 ≤ b .count → Names a b → Names b a → spread x p a ≡ spread x p b
+unfolding spread
+spread-same x p a b s t f g =
+    let most = le-antisymm (greatest-names x p a b s f) (greatest-names x p b a t g) in
+    let least = le-antisymm (least-names x p b a t g) (least-names x p a b s f) in rw (most, least)
+
+-- nets that name the same modules, in any order and as often as they like, have the same half perimeter
+pub named-twice : (p : Placement) (a b : Net) → 1 ≤ a .count → 1 ≤ b .count → Names a b → Names b a → halfPerimeter p a ≡ halfPerimeter p b
+named-twice p a b s t f g = rw (spread-same Vertical p a b s t f g, spread-same Horizontal p a b s t f g)
+
+-- ---- same costs
+names-same : {a b : Net} → SameNet a b → Names a b
+names-same z i h = (i, rw (z .count) at h, z .members i h)
+
+net-sym : {a b : Net} → SameNet a b → SameNet b a
+net-sym z = record { count = sym (z .count); members = λ j h. sym (z .members j (rw (z .count) h)) }
+
+perimeter-same : (p : Placement) (a b : Net) → SameNet a b → 1 ≤ a .count → halfPerimeter p a ≡ halfPerimeter p b
+perimeter-same p a b z s = named-twice p a b s (rw (z .count) at s) (names-same z) (names-same (net-sym z))
+
+wire-same : (p : Placement) (m : ℕ) (nets nets' : List Net) (n : ℕ) → ((i : ℕ) → i < n → SameNet (netAt nets i) (netAt nets' i))
+    → ((i : ℕ) → i < n → NetLimits m (netAt nets i)) → wireOf p nets n ≡ wireOf p nets' n
+unfolding wireOf
+wire-same p m nets nets' zero z l = refl
+wire-same p m nets nets' (suc n) z l =
+    let rest = wire-same p m nets nets' n (λ i h. z i (omega arith)) (λ i h. l i (omega arith)) in
+    let h = le-refl (suc n) in rw (rest, perimeter-same p (netAt nets n) (netAt nets' n) (z n h) (l n h .some))
+
+net-same : (m : ℕ) (a b : Net) → SameNet a b → lawfulNet m a ≡ lawfulNet m b
+unfolding lawfulNet
+net-same m a b z =
+    let each = all-below (a .count) (λ j. ltb (memberAt a j) m) (λ j. ltb (memberAt b j) m) (λ j h. rw (z .members j h)) in
+    rw (each, z .count)
+
+module _ {a b : Cost} (z : SameCost a b) where
+  pub terms-same : lawfulTerms (a .terms) (a .termCount) ≡ lawfulTerms (b .terms) (b .termCount)
+  unfolding lawfulTerms
+  terms-same =
+      let each = all-below (a .termCount) (λ i. lawfulWeight (weightOf (termAt (a .terms) i))) (λ i. lawfulWeight (weightOf (termAt (b .terms) i)))
+      (λ i h. rw (z .terms i h)) in
+      rw (each, z .termCount)
+
+  module _ {d e : Design} (y : SameDesign d e) where
+    pub nets-same : lawfulNets (d .modules) (a .nets) (a .netCount) ≡ lawfulNets (e .modules) (b .nets) (b .netCount)
+    unfolding lawfulNets
+    nets-same =
+        let m = d .modules in
+        let each = all-below (a .netCount) (λ i. lawfulNet m (netAt (a .nets) i)) (λ i. lawfulNet m (netAt (b .nets) i))
+        (λ i h. net-same m (netAt (a .nets) i) (netAt (b .nets) i) (z .nets i h)) in
+        rw (each, z .netCount, y .modules)
+
+    module _ (p : Placement) (nets : So (lawfulNets (d .modules) (a .nets) (a .netCount))) where
+      amount-same : (t : Term) → amountOf d p a t ≡ amountOf e p b t
+      unfolding areaOf
+      amount-same (Area w) = rw (root-same y)
+      amount-same (Ratio w) = rw (y .modules)
+      amount-same (Wire w) =
+          let l = nets-limits (d .modules) (a .nets) (a .netCount) nets .each in
+          rw (wire-same p (d .modules) (a .nets) (b .nets) (a .netCount) (z .nets) l, z .netCount)
+
+      after-same : (n : ℕ) → n ≤ a .termCount → scoreAfter d p a n ≡ scoreAfter e p b n
+      unfolding scoreAfter
+      after-same zero h = refl
+      after-same (suc n) h = rw (after-same n (omega arith), z .terms n h, amount-same (termAt (b .terms) n))
+
+      pub score-same : scoreOf d p a ≡ scoreOf e p b
+      score-same = after-same (a .termCount) (le-refl (a .termCount)) ∙ rw (z .termCount)

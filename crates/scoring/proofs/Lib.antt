@@ -1,0 +1,3 @@
+-- Laws of the score's steps.
+pub mod Literals
+pub mod Extents

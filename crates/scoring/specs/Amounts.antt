@@ -1,0 +1,52 @@
+-- The amounts of a floorplan, and the extents that area and wire come from.
+use mathlib.Core.Path.{_≡_}
+use mathlib.Core.List.{List}
+use Prim.Native.Nat.{ℕ, zero, suc, _≤_}
+use lib.Ieee.{Float}
+use Rattle.rules.specs.declared.Rectangle.{Rectangle}
+use Rattle.rules.specs.declared.Design.{Design}
+use Rattle.rules.specs.declared.Direction.the-variants.{Vertical, Horizontal}
+use Rattle.rules.specs.declared.Net.{Net}
+use Rattle.rules.specs.declared.Score.{Score}
+use Rattle.rules.specs.declared.Term.{Term}
+use Rattle.rules.specs.declared.Term.the-variants.{Area, Ratio, Wire}
+use Rattle.rules.specs.Placement.{Placement}
+use Rattle.rules.specs.Score.{exact, areaOf, ratioOf, wireOf, centre, memberAt, withTerm}
+use Rattle.extents.specs.declared.Extent.{Extent}
+use Rattle.extents.specs.Sides.{extent, extentOf, together}
+use Rattle.scoring.specs.declared.amounts.Amounts.{Amounts}
+
+-- the extent of the things 0, 1, .., n together
+unfoldable pub extentTo : ℕ → (ℕ → Extent) → Extent
+extentTo zero g = g 0
+extentTo (suc n) g = together (extentTo n g) (g (suc n))
+
+-- of the rectangles of modules 0 to n; of the doubled centres of a net's members 0 to n
+abbrev pub modulesTo : ℕ → Placement → Extent
+modulesTo n p = extentTo n (λ k. extentOf (p k))
+
+abbrev pub pointOf : Rectangle → Extent
+pointOf r = extent (centre Vertical r) (centre Horizontal r) (centre Vertical r) (centre Horizontal r)
+
+abbrev pub membersTo : ℕ → Placement → Net → Extent
+membersTo n p net = extentTo n (λ j. pointOf (p (memberAt net j)))
+
+-- a side or a doubled centre of a rectangle from four bytes is at most so much
+abbrev pub mostSide : ℕ
+mostSide = 765
+
+pub record Near (e : Extent) : Type 0 where
+  pub right : e .far .x .0 ≤ mostSide
+  pub top : e .far .y .0 ≤ mostSide
+  pub across : e .low .x .0 ≤ e .far .x .0
+  pub up : e .low .y .0 ≤ e .far .y .0
+
+-- what each kind of term counts
+abbrev pub amountsOf : Design → Placement → List Net → ℕ → Amounts
+amountsOf d p nets n =
+    record { area = exact (areaOf d p); ratio = ratioOf (d .modules) p; wire = exact (wireOf p nets n) }
+
+abbrev pub afterTerm : Score → Amounts → Term → Score
+afterTerm s a (Area w) = withTerm s (a .area) w
+afterTerm s a (Ratio w) = withTerm s (a .ratio) w
+afterTerm s a (Wire w) = withTerm s (a .wire) w

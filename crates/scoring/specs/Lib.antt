@@ -1,0 +1,2 @@
+-- What the score's functions compute, step by step.
+pub mod Amounts
