@@ -1,8 +1,8 @@
 -- The amounts of a floorplan, and the extents that area and wire come from.
-use mathlib.Core.Path.{_≡_}
+use mathlib.Core.Bool.{So}
 use mathlib.Core.List.{List}
 use Prim.Native.Nat.{ℕ, zero, suc, _≤_}
-use lib.Ieee.{Float}
+use lib.ListN.{length}
 use Rattle.rules.specs.declared.Rectangle.{Rectangle}
 use Rattle.rules.specs.declared.Design.{Design}
 use Rattle.rules.specs.declared.Direction.the-variants.{Vertical, Horizontal}
@@ -11,7 +11,9 @@ use Rattle.rules.specs.declared.Score.{Score}
 use Rattle.rules.specs.declared.Term.{Term}
 use Rattle.rules.specs.declared.Term.the-variants.{Area, Ratio, Wire}
 use Rattle.rules.specs.Placement.{Placement}
-use Rattle.rules.specs.Score.{exact, areaOf, ratioOf, wireOf, centre, memberAt, withTerm}
+use Rattle.rules.specs.Design.{LawfulDesign}
+use Rattle.rules.specs.Service.{rowsOf}
+use Rattle.rules.specs.Score.{Cost, mostTerms, lawfulNets, exact, areaOf, ratioOf, wireOf, centre, memberAt, termAt, noScore, withTerm}
 use Rattle.extents.specs.declared.Extent.{Extent}
 use Rattle.extents.specs.Sides.{extent, extentOf, together}
 use Rattle.scoring.specs.declared.amounts.Amounts.{Amounts}
@@ -50,3 +52,14 @@ abbrev pub afterTerm : Score → Amounts → Term → Score
 afterTerm s a (Area w) = withTerm s (a .area) w
 afterTerm s a (Ratio w) = withTerm s (a .ratio) w
 afterTerm s a (Wire w) = withTerm s (a .wire) w
+
+unfoldable pub afterTerms : Amounts → List Term → ℕ → Score
+afterTerms a terms zero = noScore
+afterTerms a terms (suc n) = afterTerm (afterTerms a terms n) a (termAt terms n)
+
+-- what has been tested before a score is reckoned
+pub record Ready (d : Design) (rows : List ℕ) (c : Cost) : Type 0 where
+  pub design : LawfulDesign d
+  pub places : rowsOf d ≤ length rows
+  pub terms : c .termCount ≤ mostTerms
+  pub nets : So (lawfulNets (d .modules) (c .nets) (c .netCount))

@@ -13,12 +13,13 @@ use rules::Rows;
 use rules::Shape;
 ghost use mathlib.Core.Path.{_≡_};
 ghost use mathlib.Core.Bool.{So};
-ghost use Prim.Native.Nat.{_-_, _*_, _≤_, _<_};
+ghost use Prim.Native.Nat.{_+_, _-_, _*_, _≤_, _<_};
 ghost use lib.ListN.{length};
-ghost use Rattle.rules.specs.Design.{LawfulDesign};
+ghost use Rattle.rules.specs.Design.{mostModules, LawfulDesign};
 ghost use Rattle.rules.specs.Check.{fromRows};
-ghost use Rattle.rules.specs.Score.{exact, areaOf, ratioMore, ratioOf, halfPerimeter, wireOf, lawfulNet, lawfulNets};
+ghost use Rattle.rules.specs.Score.{exact, areaOf, ratioMore, ratioOf, memberAt, halfPerimeter, wireOf, lawfulNet, lawfulNets, mostNets};
 ghost use Rattle.rows.specs.Row.{Bytes};
+ghost use Rattle.extents.specs.Sides.{extentOf};
 ghost use Rattle.scoring.specs.Amounts.{Near, mostSide, pointOf, modulesTo, membersTo, amountsOf};
 
 // What each kind of term counts, without its weight.
@@ -37,14 +38,22 @@ fn exact_of(n: usize) -> f64
     n as f64
 }
 
+// The extent of a module's rectangle.
+fn module_extent(rows: &[u8], k: usize) -> Extent
+    requires { ⌜ 4 * k + 4 ≤ length (now rows) ⌝ }
+    ensures { λ e. ⌜ (e ≡ extentOf (fromRows (now (rows .entry)) k)) × Near e ⌝ }
+{
+    extent_of(rectangle_at(rows, k))
+}
+
 // The extent of all modules' rectangles.
 fn modules_extent(rows: &[u8], modules: usize) -> Extent
-    requires { ⌜ (1 ≤ modules) × (4 * modules ≤ length (now rows)) ⌝ }
+    requires { ⌜ (1 ≤ modules) × (modules ≤ mostModules) × (4 * modules ≤ length (now rows)) ⌝ }
     ensures { λ e. ⌜ (e ≡ modulesTo (modules - 1) (fromRows (now (rows .entry)))) × Near e ⌝ }
 {
-    let mut extent = extent_of(rectangle_at(rows, 0));
+    let mut extent = module_extent(rows, 0);
     for k in 1..modules {
-        extent = together(extent, extent_of(rectangle_at(rows, k)));
+        extent = together(extent, module_extent(rows, k));
     }
     extent
 }
@@ -70,7 +79,7 @@ fn ratio_more(sum: f64, shape: Shape) -> f64
 
 // The sum of all modules' ratios, in module order.
 fn ratio_of(rows: &[u8], modules: usize) -> f64
-    requires { ⌜ 4 * modules ≤ length (now rows) ⌝ }
+    requires { ⌜ (modules ≤ mostModules) × (4 * modules ≤ length (now rows)) ⌝ }
     ensures { λ r. ⌜ r ≡ ratioOf modules (fromRows (now (rows .entry))) ⌝ }
 {
     let mut sum = 0.0;
@@ -96,15 +105,24 @@ fn point_of(r: Rectangle) -> Extent
     }
 }
 
+// The doubled centre of a net's member.
+fn member_point(rows: &[u8], modules: usize, net: Net, j: usize) -> Extent
+    requires { ⌜ So (lawfulNet modules net) × (4 * modules ≤ length (now rows)) × (j < net .count) ⌝ }
+    ensures { λ e. ⌜ (e ≡ pointOf (fromRows (now (rows .entry)) (memberAt net j))) × Near e ⌝ }
+{
+    let members = net.modules;
+    let k = members[j] as usize;
+    point_of(rectangle_at(rows, k))
+}
+
 // The extent of the doubled centres of a net's members.
 fn members_extent(rows: &[u8], modules: usize, net: Net) -> Extent
     requires { ⌜ So (lawfulNet modules net) × (4 * modules ≤ length (now rows)) ⌝ }
     ensures { λ e. ⌜ (e ≡ membersTo (net .count - 1) (fromRows (now (rows .entry))) net) × Near e ⌝ }
 {
-    let members = net.modules;
-    let mut extent = point_of(rectangle_at(rows, members[0] as usize));
+    let mut extent = member_point(rows, modules, net, 0);
     for j in 1..net.count {
-        extent = together(extent, point_of(rectangle_at(rows, members[j] as usize)));
+        extent = together(extent, member_point(rows, modules, net, j));
     }
     extent
 }
@@ -123,7 +141,7 @@ fn half_perimeter(rows: &[u8], modules: usize, net: Net) -> usize
 // The sum over all nets.
 fn wire_of(rows: &[u8], modules: usize, nets: [Net; MOST_NETS], count: usize) -> usize
     requires { ⌜ So (lawfulNets modules nets count) × (4 * modules ≤ length (now rows)) ⌝ }
-    ensures { λ r. ⌜ (r ≡ wireOf (fromRows (now (rows .entry))) nets count) × (r ≤ count * (2 * mostSide)) ⌝ }
+    ensures { λ r. ⌜ (r ≡ wireOf (fromRows (now (rows .entry))) nets count) × (r ≤ mostNets * (2 * mostSide)) ⌝ }
 {
     let mut sum = 0;
     for i in 0..count {

@@ -14,13 +14,10 @@ use rules::Score;
 use rules::Term;
 pub use terms::are_terms;
 ghost use mathlib.Core.Path.{_≡_};
-ghost use mathlib.Core.Bool.{So};
-ghost use Prim.Native.Nat.{_*_, _≤_};
-ghost use lib.ListN.{length};
-ghost use Rattle.rules.specs.Design.{LawfulDesign};
+ghost use Prim.Native.Nat.{_≤_};
 ghost use Rattle.rules.specs.Check.{fromRows};
-ghost use Rattle.rules.specs.Score.{mostTerms, lawfulNets, cost, withTerm, scoreOf};
-ghost use Rattle.scoring.specs.Amounts.{amountsOf, afterTerm};
+ghost use Rattle.rules.specs.Score.{mostTerms, cost, withTerm, scoreOf};
+ghost use Rattle.scoring.specs.Amounts.{afterTerm, afterTerms, Ready};
 
 // The score with an amount more.
 fn with_amount(score: Score, amount: f64, weight: f64) -> Score
@@ -43,7 +40,23 @@ fn after_term(score: Score, amounts: Amounts, term: Term) -> Score
     }
 }
 
-// The score of rows: term after term, in list order.
+// The score of the first `count` terms, in list order.
+fn score_terms(amounts: Amounts, terms: [Term; MOST_TERMS], count: usize) -> Score
+    requires { ⌜ count ≤ mostTerms ⌝ }
+    ensures { λ r. ⌜ r ≡ afterTerms amounts terms count ⌝ }
+{
+    let mut score = Score {
+        total: 0.0,
+        last: 0.0,
+    };
+    for i in 0..count {
+        let term = terms[i];
+        score = after_term(score, amounts, term);
+    }
+    score
+}
+
+// The score of a floorplan in rows.
 pub fn score_rows(
     design: Design,
     rows: &[u8],
@@ -52,17 +65,9 @@ pub fn score_rows(
     nets: [Net; MOST_NETS],
     net_count: usize,
 ) -> Score
-    requires { ⌜ LawfulDesign design × (4 * design .modules ≤ length (now rows)) × (term_count ≤ mostTerms) × So (lawfulNets (design .modules) nets net_count) ⌝ }
-    ensures { λ r. ⌜ r ≡ scoreOf design (fromRows (now (rows .entry))) (cost terms term_count nets net_count) ⌝ }
+    requires { ⌜ Ready design (now rows) (cost terms «term_count» nets «net_count») ⌝ }
+    ensures { λ r. ⌜ r ≡ scoreOf design (fromRows (now (rows .entry))) (cost terms «term_count» nets «net_count») ⌝ }
 {
     let amounts = amounts_of(design, rows, nets, net_count);
-    let mut score = Score {
-        total: 0.0,
-        last: 0.0,
-    };
-    for i in 0..term_count {
-        let term = terms[i];
-        score = after_term(score, amounts, term);
-    }
-    score
+    score_terms(amounts, terms, term_count)
 }

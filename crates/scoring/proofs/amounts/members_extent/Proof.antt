@@ -1,72 +1,48 @@
+-- `scoring::amounts::members_extent` meets its contract: with each member its doubled centre is put to those before.
+-- Assumes nothing.
+use Prim.Native.Nat.{_-_, _≤_}
+use native.Mathlib.Omega.{arith}
+use borrow.Author.Needs.{needs}
+use Rattle.rules.specs.Check.{fromRows}
+use Rattle.rules.specs.Score.{memberAt}
+use Rattle.rules.proofs.Scoring.{net-limits}
+use Rattle.scoring.specs.Amounts.{pointOf}
+use Rattle.scoring.proofs.Extents.{Reached, one-reached, next-reached, all-reached}
 use Rattle.scoring.proofs.amounts.members_extent.Statement.{statement}
 use Rattle.scoring.proofs.amounts.members_extent.Tie as tie
-use Rattle.scoring.proofs.amounts.members_extent.Reads as reads
-use Rattle.scoring.proofs.amounts.members_extent.Lts as lts
-use Rattle.extents.proofs.together.Reads as together-reads
-use Rattle.rows.proofs.rectangle_at.Reads as rectangle-at-reads
-use Rattle.scoring.proofs.amounts.point_of.Reads as point-of-reads
 
 abbrev Inv-loop : tie.InvT-loop
-Inv-loop rows modules members extent₀ j₀ j-end extent j = ?
+Inv-loop rows modules net extent₀ j₀ j-end extent j =
+    (1 ≤ j) × (j ≤ j-end) × Reached (λ j. pointOf (fromRows rows (memberAt net j))) j extent
 
 abbrev μ-loop : tie.MeasureT-loop
-μ-loop rows modules members extent₀ j₀ j-end extent j = ?
+μ-loop rows modules net extent₀ j₀ j-end extent j = j-end - j
 
--- src/amounts.rt:105:50
-array-read-rectangle-at : tie.Need-array-read-rectangle-at Inv-loop μ-loop
-array-read-rectangle-at c = ?
+member-point-requires : tie.Need-member-point-requires Inv-loop μ-loop
+member-point-requires c κs = let p = c .before .pre in (p .0, p .1, net-limits _ _ (p .0) .some)
 
--- src/amounts.rt:105:50
-cast-rectangle-at : tie.Need-cast-rectangle-at Inv-loop μ-loop
-cast-rectangle-at c = ?
-
--- src/amounts.rt:105:31
-rectangle-at-requires : tie.Need-rectangle-at-requires Inv-loop μ-loop
-rectangle-at-requires c κs = ?
-
--- src/amounts.rt:105:9
-point-of-requires : tie.Need-point-of-requires Inv-loop μ-loop
-point-of-requires c κs = ?
-
--- src/amounts.rt:106:5
 loop-holds : tie.Need-loop-holds Inv-loop μ-loop
-loop-holds c = ?
+loop-holds c = (omega arith, net-limits _ _ (c .before .before .pre .0) .some, one-reached (c .member-point .ensures))
 
--- src/amounts.rt:107:63
-array-read-rectangle-at-2 : tie.Need-array-read-rectangle-at-2 Inv-loop μ-loop
-array-read-rectangle-at-2 c = ?
+member-point-requires-2 : tie.Need-member-point-requires-2 Inv-loop μ-loop
+member-point-requires-2 c κs = let p = c .before .before .before .before .pre in (p .0, p .1, c .loop-test .taken)
 
--- src/amounts.rt:107:63
-cast-rectangle-at-2 : tie.Need-cast-rectangle-at-2 Inv-loop μ-loop
-cast-rectangle-at-2 c = ?
-
--- src/amounts.rt:107:44
-rectangle-at-requires-2 : tie.Need-rectangle-at-requires-2 Inv-loop μ-loop
-rectangle-at-requires-2 c κs = ?
-
--- src/amounts.rt:107:35
-point-of-requires-2 : tie.Need-point-of-requires-2 Inv-loop μ-loop
-point-of-requires-2 c κs = ?
-
--- src/amounts.rt:107:9
 together-requires : tie.Need-together-requires Inv-loop μ-loop
-together-requires c κs = ?
+together-requires c κs = search needs
 
--- src/amounts.rt:106:9
 add-j : tie.Need-add-j Inv-loop μ-loop
-add-j c = ?
+add-j c = let z = net-limits _ _ (c .before .before .before .before .before .before .pre .0) .most in omega arith
 
--- src/amounts.rt:106:5
 loop-less : tie.Need-loop-less Inv-loop μ-loop
-loop-less c = ?
+loop-less c = omega arith
 
--- src/amounts.rt:106:5
 loop-again : tie.Need-loop-again Inv-loop μ-loop
-loop-again c = ?
+loop-again c =
+    let i = c .before .before .before .loop .inv in
+    (omega arith, omega arith, next-reached (i .0) (i .2) (c .before .member-point2 .ensures) (c .together .ensures))
 
--- src/amounts.rt:100:1
 returns : tie.Need-returns Inv-loop μ-loop
-returns c = ?
+returns c = all-reached (omega arith) (c .before .loop .inv .2)
 
 pub members-extent-spec : {M : Type 1} → statement M
 members-extent-spec =
@@ -74,15 +50,9 @@ members-extent-spec =
     (tie.spec
     Inv-loop
     μ-loop
-    array-read-rectangle-at
-    cast-rectangle-at
-    rectangle-at-requires
-    point-of-requires
+    member-point-requires
     loop-holds
-    array-read-rectangle-at-2
-    cast-rectangle-at-2
-    rectangle-at-requires-2
-    point-of-requires-2
+    member-point-requires-2
     together-requires
     add-j
     loop-less

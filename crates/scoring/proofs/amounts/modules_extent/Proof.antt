@@ -1,56 +1,45 @@
+-- `scoring::amounts::modules_extent` meets its contract: with each module its rectangle is put to those before.
+-- Assumes nothing.
+use Prim.Native.Nat.{_-_, _≤_}
+use native.Mathlib.Omega.{arith}
+use borrow.Author.Needs.{needs}
+use Rattle.rules.specs.Check.{fromRows}
+use Rattle.extents.specs.Sides.{extentOf}
+use Rattle.scoring.proofs.Extents.{Reached, one-reached, next-reached, all-reached}
 use Rattle.scoring.proofs.amounts.modules_extent.Statement.{statement}
 use Rattle.scoring.proofs.amounts.modules_extent.Tie as tie
-use Rattle.scoring.proofs.amounts.modules_extent.Reads as reads
-use Rattle.scoring.proofs.amounts.modules_extent.Lts as lts
-use Rattle.extents.proofs.extent_of.Reads as extent-of-reads
-use Rattle.extents.proofs.together.Reads as together-reads
-use Rattle.rows.proofs.rectangle_at.Reads as rectangle-at-reads
 
 abbrev Inv-loop : tie.InvT-loop
-Inv-loop rows modules extent₀ k₀ extent k = ?
+Inv-loop rows modules extent₀ k₀ extent k = (1 ≤ k) × (k ≤ modules) × Reached (λ k. extentOf (fromRows rows k)) k extent
 
 abbrev μ-loop : tie.MeasureT-loop
-μ-loop rows modules extent₀ k₀ extent k = ?
+μ-loop rows modules extent₀ k₀ extent k = modules - k
 
--- src/amounts.rt:45:32
-rectangle-at-requires : tie.Need-rectangle-at-requires Inv-loop μ-loop
-rectangle-at-requires c κs = ?
+module-extent-requires : tie.Need-module-extent-requires Inv-loop μ-loop
+module-extent-requires c κs = omega arith
 
--- src/amounts.rt:45:9
-extent-of-requires : tie.Need-extent-of-requires Inv-loop μ-loop
-extent-of-requires c κs = ?
-
--- src/amounts.rt:46:5
 loop-holds : tie.Need-loop-holds Inv-loop μ-loop
-loop-holds c = ?
+loop-holds c = (omega arith, omega arith, one-reached (c .module-extent .ensures))
 
--- src/amounts.rt:47:45
-rectangle-at-requires-2 : tie.Need-rectangle-at-requires-2 Inv-loop μ-loop
-rectangle-at-requires-2 c κs = ?
+module-extent-requires-2 : tie.Need-module-extent-requires-2 Inv-loop μ-loop
+module-extent-requires-2 c κs = omega arith
 
--- src/amounts.rt:47:35
-extent-of-requires-2 : tie.Need-extent-of-requires-2 Inv-loop μ-loop
-extent-of-requires-2 c κs = ?
-
--- src/amounts.rt:47:9
 together-requires : tie.Need-together-requires Inv-loop μ-loop
-together-requires c κs = ?
+together-requires c κs = search needs
 
--- src/amounts.rt:46:9
 add-k : tie.Need-add-k Inv-loop μ-loop
-add-k c = ?
+add-k c = omega arith
 
--- src/amounts.rt:46:5
 loop-less : tie.Need-loop-less Inv-loop μ-loop
-loop-less c = ?
+loop-less c = omega arith
 
--- src/amounts.rt:46:5
 loop-again : tie.Need-loop-again Inv-loop μ-loop
-loop-again c = ?
+loop-again c =
+    let i = c .before .before .before .loop .inv in
+    (omega arith, omega arith, next-reached (i .0) (i .2) (c .before .module-extent2 .ensures) (c .together .ensures))
 
--- src/amounts.rt:41:1
 returns : tie.Need-returns Inv-loop μ-loop
-returns c = ?
+returns c = all-reached (omega arith) (c .before .loop .inv .2)
 
 pub modules-extent-spec : {M : Type 1} → statement M
 modules-extent-spec =
@@ -58,11 +47,9 @@ modules-extent-spec =
     (tie.spec
     Inv-loop
     μ-loop
-    rectangle-at-requires
-    extent-of-requires
+    module-extent-requires
     loop-holds
-    rectangle-at-requires-2
-    extent-of-requires-2
+    module-extent-requires-2
     together-requires
     add-k
     loop-less

@@ -1,59 +1,61 @@
+-- `scoring::terms::are_terms` meets its contract: the count is tested, and then each weight until one fails.
+-- Assumes nothing.
+use mathlib.Core.Path.{_≡_, _∙_, ap}
+use mathlib.Core.Bool.{true}
+use Prim.Native.Nat.{_-_, _≤_}
+use native.Mathlib.Omega.{arith}
+use borrow.Author.Needs.{needs}
+use Rattle.rules.specs.Search.{all}
+use Rattle.rules.specs.Score.{lawfulWeight, weightOf, termAt}
+use Rattle.rules.proofs.Testing.{all-none, all-more, failed, passed}
+use Rattle.scoring.proofs.Listed.{terms-many, term-fails, terms-pass}
 use Rattle.scoring.proofs.terms.are_terms.Statement.{statement}
 use Rattle.scoring.proofs.terms.are_terms.Tie as tie
-use Rattle.scoring.proofs.terms.are_terms.Reads as reads
-use Rattle.scoring.proofs.terms.are_terms.Lts as lts
-use Rattle.scoring.proofs.terms.is_weight.Reads as is-weight-reads
-use Rattle.scoring.proofs.terms.weight_of.Reads as weight-of-reads
 
 abbrev Inv-loop : tie.InvT-loop
-Inv-loop count terms i₀ i = ?
+Inv-loop count terms i₀ i = (i ≤ count) × (all i (λ i. lawfulWeight (weightOf (termAt terms i))) ≡ true)
 
 abbrev μ-loop : tie.MeasureT-loop
-μ-loop count terms i₀ i = ?
+μ-loop count terms i₀ i = count - i
 
--- src/terms.rt:33:9
 returns : tie.Need-returns Inv-loop μ-loop
-returns c = ?
+returns c = terms-many _ _ (c .if1 .taken)
 
--- src/terms.rt:35:5
 loop-holds : tie.Need-loop-holds Inv-loop μ-loop
-loop-holds c = ?
+loop-holds c = (search needs, all-none _)
 
--- src/terms.rt:36:20
 mul-term : tie.Need-mul-term Inv-loop μ-loop
-mul-term c = ?
+mul-term c = search needs
 
--- src/terms.rt:36:20
 array-copy-out-term : tie.Need-array-copy-out-term Inv-loop μ-loop
-array-copy-out-term c = ?
+array-copy-out-term c = search needs
 
--- src/terms.rt:37:23
 weight-of-requires : tie.Need-weight-of-requires Inv-loop μ-loop
-weight-of-requires c κs = ?
+weight-of-requires c κs = search needs
 
--- src/terms.rt:37:13
 is-weight-requires : tie.Need-is-weight-requires Inv-loop μ-loop
-is-weight-requires c κs = ?
+is-weight-requires c κs = search needs
 
--- src/terms.rt:38:13
 returns-2 : tie.Need-returns-2 Inv-loop μ-loop
-returns-2 c = ?
+returns-2 c =
+    let w = c .before .is-weight .ensures ∙ ap lawfulWeight (c .before .before .weight-of .ensures) in
+    term-fails _ _ _ (c .before .before .before .before .loop-test .taken) (failed w (c .if2 .taken))
 
--- src/terms.rt:35:9
 add-i : tie.Need-add-i Inv-loop μ-loop
-add-i c = ?
+add-i c = search needs
 
--- src/terms.rt:35:5
 loop-less : tie.Need-loop-less Inv-loop μ-loop
-loop-less c = ?
+loop-less c = search needs
 
--- src/terms.rt:35:5
 loop-again : tie.Need-loop-again Inv-loop μ-loop
-loop-again c = ?
+loop-again c =
+    let w = c .before .is-weight .ensures ∙ ap lawfulWeight (c .before .before .weight-of .ensures) in
+    (search needs, all-more _ _ (c .before .before .before .before .before .loop .inv .1) (passed w (c .if2 .left)))
 
--- src/terms.rt:29:1
 returns-3 : tie.Need-returns-3 Inv-loop μ-loop
-returns-3 c = ?
+returns-3 c =
+    let e : c .before .loop .i ≡ c .before .before .before .args .count = omega arith in
+    terms-pass _ _ (c .before .before .if1 .left) (rw e at (c .before .loop .inv .1))
 
 pub are-terms-spec : {M : Type 1} → statement M
 are-terms-spec =
