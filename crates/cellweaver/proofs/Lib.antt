@@ -1,3 +1,4 @@
 -- What the proofs share.
 mod Needed
 mod Answers
+mod Scored

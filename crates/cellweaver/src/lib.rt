@@ -11,10 +11,18 @@ use placing::place_lists;
 use rules::Design;
 use rules::Edit;
 use rules::Handed;
+use rules::MOST_NETS;
+use rules::MOST_TERMS;
+use rules::Net;
 use rules::Planned;
 use rules::Refusal;
 use rules::Reply;
+use rules::Scored;
+use rules::Term;
 use rules::Written;
+use scoring::are_nets;
+use scoring::are_terms;
+use scoring::score_rows;
 use slots::board_of;
 use stairs::all_stairs;
 ghost use mathlib.Core.Path.{_≡_};
@@ -22,7 +30,8 @@ ghost use Prim.Native.Nat.{_≤_};
 ghost use lib.ListN.{length};
 ghost use Rattle.rules.specs.declared.Reply.the-variants.{Refused};
 ghost use Rattle.rules.specs.Design.{LawfulDesign, nodes, slotsOf};
-ghost use Rattle.rules.specs.Service.{workOf, Reads, Writes, Lists, Plans, Places, Edits, Checks};
+ghost use Rattle.rules.specs.Score.{cost};
+ghost use Rattle.rules.specs.Service.{workOf, Reads, Writes, Lists, Plans, Places, Edits, Checks, Scores};
 ghost use Rattle.slots.specs.Size.{boardOf};
 ghost use Rattle.stairs.specs.Walk.{stairsOn};
 ghost use Rattle.cellweaver.specs.Tested.{enoughLent};
@@ -162,4 +171,30 @@ pub fn check(design: Design, rows: &[u8]) -> Reply
         return Reply::Refused(Refusal::TooShort);
     }
     judge_rows(design, rows)
+}
+
+// Scores a floorplan that the checker passes, by terms and nets.
+pub fn score(
+    design: Design,
+    rows: &[u8],
+    terms: [Term; MOST_TERMS],
+    term_count: usize,
+    nets: [Net; MOST_NETS],
+    net_count: usize,
+) -> Scored
+    ensures { λ r. ⌜ Scores design (now (rows .entry)) (cost terms «term_count» nets «net_count») r ⌝ }
+{
+    let reply = check(design, rows);
+    if let Reply::Refused(e) = reply {
+        return Scored::Refused(e);
+    }
+    if !are_terms(terms, term_count) {
+        return Scored::Refused(Refusal::BadTerm);
+    }
+    if !are_nets(design.modules, nets, net_count) {
+        return Scored::Refused(Refusal::BadNet);
+    }
+    Scored::Values(score_rows(
+        design, rows, terms, term_count, nets, net_count,
+    ))
 }
