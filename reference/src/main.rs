@@ -24,6 +24,7 @@ mod program;
 mod random;
 mod reply;
 mod say;
+mod score;
 mod shapes;
 mod tree;
 mod trials;

@@ -33,3 +33,7 @@ pub const OFF_THE_CHIP: Number = 12;
 pub const SHORT_OF_NEED: Number = 13;
 /// Checker: cut not kept.
 pub const CUT_NOT_KEPT: Number = 14;
+/// Score: a ninth term, or a weight outside 0 to 1,000,000 or not a number.
+pub const BAD_TERM: Number = 15;
+/// Score: a 33rd net, or one that is empty or names a missing module.
+pub const BAD_NET: Number = 16;

@@ -1,6 +1,7 @@
 //! Runs stored cases, one JSON record on each line, and compares every answer.
 //!
-//! The name of a file says which service its cases are for: `base_read.jsonl` and so on.
+//! The name of a file says which service its cases are for: `base_read.jsonl` and so on, and `o01_score.jsonl` for the score that
+//! order 1 adds. Files of orders that are still to come are passed over.
 
 use std::fmt::Debug;
 use std::fs;
@@ -16,17 +17,22 @@ use crate::json::{parse, Json};
 use crate::lists::list;
 use crate::program::plan_program;
 use crate::reply::{Number, DONE};
+use crate::score::{score, Kind, Net, Term};
 
 /// What a case comes to: nothing if all is as stored, else what differs.
 type Outcome = Result<(), String>;
 
-/// Runs every `base_*.jsonl` file of the folder; true if nothing differs.
+/// The files of orders that have landed.
+const ORDERS: [&str; 1] = ["o01_score.jsonl"];
+
+/// Runs every `base_*.jsonl` file of the folder and those of the orders; true if nothing differs.
 pub fn run_folder(folder: &Path) -> Result<bool, String> {
     let mut names = Vec::new();
     for entry in fs::read_dir(folder).map_err(|e| e.to_string())? {
         let entry = entry.map_err(|e| e.to_string())?;
         let name = entry.file_name().to_string_lossy().into_owned();
-        if name.starts_with("base_") && name.ends_with(".jsonl") {
+        let is_base = name.starts_with("base_") && name.ends_with(".jsonl");
+        if is_base || ORDERS.contains(&name.as_str()) {
             names.push(name);
         }
     }
@@ -68,6 +74,7 @@ fn case_of(name: &str) -> Result<fn(&Json) -> Outcome, String> {
         "base_runs.jsonl" => Ok(runs_case),
         "base_check.jsonl" => Ok(check_case),
         "base_program.jsonl" => Ok(program_case),
+        "o01_score.jsonl" => Ok(score_case),
         _ => Err(format!("{name}: no service of that name")),
     }
 }
@@ -183,6 +190,44 @@ fn check_case(case: &Json) -> Outcome {
 fn program_case(case: &Json) -> Outcome {
     let printed = plan_program(&case.field("stdin")?.hex()?);
     same("text", &printed.as_str(), &case.field("stdout")?.text()?)
+}
+
+fn score_case(case: &Json) -> Outcome {
+    let rows = case.field("rows")?.hex()?;
+    let (terms, nets) = (terms(case)?, nets(case)?);
+    let reply = score(&design(case.field("design")?)?, &rows, &terms, &nets);
+    same_number(case, reply.number)?;
+    same("name", &reply.name, &case.field("name")?.number()?)?;
+    same("total", &reply.scored.total.to_bits(), &bits(case.field("total")?)?)?;
+    same("last", &reply.scored.last.to_bits(), &bits(case.field("last")?)?)
+}
+
+fn terms(case: &Json) -> Result<Vec<Term>, String> {
+    let mut terms = Vec::new();
+    for stored in case.field("terms")?.list()? {
+        let [kind, weight] = stored.list()? else {
+            return Err("a term is a kind and a weight".to_string());
+        };
+        let kind = match kind.text()? {
+            "area" => Kind::Area,
+            "ratio" => Kind::Ratio,
+            "wire" => Kind::Wire,
+            other => return Err(format!("no term: {other}")),
+        };
+        let weight = f64::from_bits(bits(weight)?);
+        terms.push(Term { kind, weight });
+    }
+    Ok(terms)
+}
+
+fn nets(case: &Json) -> Result<Vec<Net>, String> {
+    case.field("nets")?.list()?.iter().map(Json::numbers).collect()
+}
+
+/// The bits of an f64, stored as hexadecimal digits, the high byte first.
+fn bits(stored: &Json) -> Result<u64, String> {
+    let bytes: [u8; 8] = stored.hex()?.try_into().map_err(|_| "an f64 has eight bytes")?;
+    Ok(u64::from_be_bytes(bytes))
 }
 
 fn same<T: PartialEq + Debug>(what: &str, got: &T, stored: &T) -> Outcome {
