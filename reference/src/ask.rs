@@ -14,6 +14,7 @@ use crate::edit::{edit, Edit};
 use crate::json::{parse, Json};
 use crate::lists::{list, slot_start};
 use crate::reply::{Number, DONE};
+use crate::score::{score, Kind, Net, Term};
 
 const MOST_LINE: usize = 16_384;
 const MOST_WORK: usize = 2_097_152;
@@ -86,6 +87,9 @@ impl Held {
     /// The answer to one line, empty if there is none to give; or why the line is bad.
     fn answer(&mut self, line: &str) -> Judged<String> {
         let words: Vec<&str> = line.split(' ').collect();
+        if words[0] == "score" {
+            return self.score(&words[1..]);
+        }
         let counts = counts(words[0]);
         if counts.is_empty() {
             return Err(NO_REQUEST);
@@ -181,6 +185,13 @@ impl Held {
         format!("{service} {number} {w} {h} {rows} {}", hash(&self.work))
     }
 
+    fn score(&self, words: &[&str]) -> Judged<String> {
+        let (terms, nets) = terms_and_nets(words)?;
+        let reply = score(&self.design, &self.rows, &terms, &nets);
+        let (total, last) = (reply.scored.total.to_bits(), reply.scored.last.to_bits());
+        Ok(format!("score {} {} {total:016x} {last:016x}", reply.number, reply.name))
+    }
+
     fn edit(&mut self, change: Edit) -> Judged<String> {
         let reply = edit(&self.design, change, &mut self.work);
         self.design = reply.design;
@@ -202,6 +213,52 @@ fn number(word: &str) -> Judged<usize> {
     } else {
         Err(NO_NUMBER)
     }
+}
+
+/// The terms and nets of a score, in the order of their words. A net has all words up to the next one that begins
+/// a term or a net.
+fn terms_and_nets(words: &[&str]) -> Judged<(Vec<Term>, Vec<Net>)> {
+    let (mut terms, mut nets) = (Vec::new(), Vec::<Net>::new());
+    let mut in_net = false;
+    let mut rest = words.iter();
+    while let Some(&word) = rest.next() {
+        if let Some(kind) = kind_of(word) {
+            let weight = weight(rest.next().ok_or(WRONG_COUNT)?)?;
+            terms.push(Term { kind, weight });
+            in_net = false;
+        } else if word == "net" {
+            nets.push(Net::new());
+            in_net = true;
+        } else if !in_net {
+            return Err(NO_REQUEST);
+        } else if let Some(net) = nets.last_mut() {
+            net.push(number(word)?);
+        }
+    }
+    Ok((terms, nets))
+}
+
+fn kind_of(word: &str) -> Option<Kind> {
+    match word {
+        "area" => Some(Kind::Area),
+        "ratio" => Some(Kind::Ratio),
+        "wire" => Some(Kind::Wire),
+        _ => None,
+    }
+}
+
+/// A weight: its bits in exactly 16 hexadecimal digits, the high ones first, or a whole number of at most 15
+/// decimal digits, which an f64 holds as it is.
+fn weight(word: &str) -> Judged<f64> {
+    if word.len() == 16 {
+        let high_first = bytes(word, 8).map_err(|_| NO_NUMBER)?;
+        let bits = high_first.iter().fold(0, |bits, &byte| bits << 8 | u64::from(byte));
+        return Ok(f64::from_bits(bits));
+    }
+    if word.len() > 15 {
+        return Err(NO_NUMBER);
+    }
+    Ok(number(word)? as f64)
 }
 
 /// Bytes, if they are no more than there are places: the length is judged first, then the digits.
@@ -353,6 +410,7 @@ pub fn requests(file: &Path) -> Result<String, String> {
                 given_work(&case)? + &asked_design(&case)? + &change
             }
             "base_runs.jsonl" => asked_run(&case)?,
+            "o01_score.jsonl" => asked_design(&case)? + &given_rows(&case)? + &asked_score(&case)?,
             _ => return Err(format!("{name}: no requests of such cases")),
         };
         requests += &asked;
@@ -455,4 +513,21 @@ fn asked_run(case: &Json) -> Result<String, String> {
         asked += &asked_edit(step.field("edit")?)?;
     }
     Ok(asked + &format!("rows {} 0\nplace\n", 4 * m))
+}
+
+fn asked_score(case: &Json) -> Result<String, String> {
+    let mut asked = "score".to_string();
+    for term in case.field("terms")?.list()? {
+        let [kind, weight] = term.list()? else {
+            return Err("a term is a kind and a weight".to_string());
+        };
+        write!(asked, " {} {}", kind.text()?, weight.text()?).unwrap();
+    }
+    for net in case.field("nets")?.list()? {
+        asked += " net";
+        for k in net.numbers()? {
+            write!(asked, " {k}").unwrap();
+        }
+    }
+    Ok(asked + "\n")
 }

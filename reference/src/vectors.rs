@@ -1,7 +1,7 @@
 //! Runs stored cases, one JSON record on each line, and compares every answer.
 //!
-//! The name of a file says which service its cases are for: `base_read.jsonl` and so on, and `o01_score.jsonl` for the score that
-//! order 1 adds. Files of orders that are still to come are passed over.
+//! The name of a file says which service its cases are for: `base_read.jsonl` and so on, and `o01_score.jsonl` for the
+//! score that order 1 adds. Files of orders that are still to come are passed over.
 
 use std::fmt::Debug;
 use std::fs;
