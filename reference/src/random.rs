@@ -1,10 +1,11 @@
-//! Random designs, damages, edits and stairs, the same for the same seed.
+//! Random designs, damages, edits, stairs, terms and nets, the same for the same seed.
 
 use crate::chip::{Amounts, Chip, Columns, Corner, Rectangle, Rows, Shape};
 use crate::choice::row_bytes;
 use crate::design::{lawful_need, Design, ALL_ZEROS, MOST_NEEDED};
 use crate::edit::Edit;
 use crate::lists::slot_start;
+use crate::score::{Kind, Net, Term, MOST_NAMES, MOST_NETS, MOST_TERMS, MOST_WEIGHT};
 
 /// Numbers by chance, the same for the same seed.
 pub struct Chance(pub u64);
@@ -296,5 +297,96 @@ pub fn spoil_a_stair(chance: &mut Chance, design: &Design, work: &mut [u8]) {
         slot[wide.0] = 1;
     } else {
         slot[0] = (high.0 + chance.between(1, 100)) as u8;
+    }
+}
+
+/// Terms that are mostly lawful: now and then there are too many, or one has a weight out of its range.
+pub fn random_terms(chance: &mut Chance) -> Vec<Term> {
+    let count = match chance.below(16) {
+        0 => MOST_TERMS,
+        1 => chance.between(MOST_TERMS + 1, 2 * MOST_TERMS),
+        _ => chance.between(0, MOST_TERMS),
+    };
+    let kinds = [Kind::Area, Kind::Ratio, Kind::Wire];
+    let mut terms = Vec::new();
+    for _ in 0..count {
+        let (kind, weight) = (kinds[chance.below(kinds.len())], weight_within(chance));
+        terms.push(Term { kind, weight });
+    }
+    if count > 0 && chance.once_in(6) {
+        terms[chance.below(count)].weight = weight_outside(chance);
+    }
+    terms
+}
+
+fn weight_within(chance: &mut Chance) -> f64 {
+    match chance.below(8) {
+        0 => [0.0, -0.0, 1.0, MOST_WEIGHT][chance.below(4)],
+        1 => f64::from_bits(MOST_WEIGHT.to_bits() - 1),
+        // the smallest numbers, which have fewer digits
+        2 => f64::from_bits(chance.next() >> chance.between(12, 63)),
+        // any bits up to the greatest weight's
+        3 => f64::from_bits(chance.next() % MOST_WEIGHT.to_bits()),
+        4 => chance.between(0, 1_000_000) as f64,
+        _ => chance.between(0, 1_000_000) as f64 / chance.between(1, 1_000) as f64,
+    }
+    .min(MOST_WEIGHT)
+}
+
+fn weight_outside(chance: &mut Chance) -> f64 {
+    const SIGN: u64 = 1 << 63;
+    let infinity = f64::INFINITY.to_bits();
+    let any_sign = chance.next() & SIGN;
+    match chance.below(7) {
+        0 => f64::from_bits(MOST_WEIGHT.to_bits() + 1),
+        1 => f64::from_bits(SIGN + 1),
+        2 => f64::from_bits(any_sign + infinity),
+        // what is no number: any sign, and any bits but zeros after the exponent
+        3 => f64::from_bits(any_sign + infinity + 1),
+        4 => f64::from_bits(any_sign + infinity + (chance.next() >> 12).max(1)),
+        5 => -weight_within(chance).max(1.0),
+        _ => 1_000_001.0 * chance.between(1, 1_000) as f64,
+    }
+}
+
+/// Nets that are mostly lawful: now and then there are too many, or one is none. No number in them is over 255.
+pub fn random_nets(chance: &mut Chance, modules: usize) -> Vec<Net> {
+    let count = match chance.below(16) {
+        0 => MOST_NETS,
+        1 => chance.between(MOST_NETS + 1, 2 * MOST_NETS),
+        2..=5 => chance.between(0, MOST_NETS),
+        _ => chance.between(0, 4),
+    };
+    let mut nets = Vec::new();
+    for _ in 0..count {
+        let names = chance.between(1, MOST_NAMES);
+        nets.push(random_names(chance, names, modules));
+    }
+    if count > 0 && chance.once_in(6) {
+        let net = chance.below(count);
+        nets[net] = no_net(chance, modules);
+    }
+    nets
+}
+
+fn random_names(chance: &mut Chance, names: usize, modules: usize) -> Net {
+    (0..names).map(|_| chance.below(modules)).collect()
+}
+
+fn no_net(chance: &mut Chance, modules: usize) -> Net {
+    match chance.below(5) {
+        0 => Net::new(),
+        1 => random_names(chance, MOST_NAMES + 1, modules),
+        2 => {
+            let names = chance.between(MOST_NAMES + 1, 255);
+            random_names(chance, names, modules)
+        }
+        wrong => {
+            let names = chance.between(1, MOST_NAMES);
+            let mut net = random_names(chance, names, modules);
+            let missing = chance.between(modules, 255);
+            net[chance.below(names)] = if wrong == 3 { modules } else { missing };
+            net
+        }
     }
 }

@@ -11,12 +11,14 @@ use crate::lists::{
 };
 use crate::program::plan_program;
 use crate::random::{
-    change_row, change_value, damage, design_of_size, random_design, random_edit, random_rows,
-    spoil_a_stair, strangers_stairs, Chance,
+    change_row, change_value, damage, design_of_size, random_design, random_edit, random_nets,
+    random_rows, random_terms, spoil_a_stair, strangers_stairs, Chance,
 };
 use crate::reply::{
-    BAD_EDIT, BAD_NUMBER, BAD_TOKEN, DONE, NOT_RELIED_ON, NO_PLACEMENT, OVER_LIMITS, TOO_SHORT,
+    Number, BAD_EDIT, BAD_NET, BAD_NUMBER, BAD_TERM, BAD_TOKEN, DONE, NOT_RELIED_ON, NO_PLACEMENT,
+    OVER_LIMITS, TOO_SHORT,
 };
+use crate::score::{score, Kind, Net, Term};
 use crate::tree::{way_up, Node};
 
 /// A self-check: true if it was made, false if it is not for this design, else what is wrong.
@@ -32,7 +34,7 @@ const MOST_FLOORPLANS: usize = 50_000;
 
 /// Makes and tries `count` designs; true if nothing is wrong.
 pub fn run(seed: u64, count: usize) -> bool {
-    let self_checks: [(&str, SelfCheck); 11] = [
+    let self_checks: [(&str, SelfCheck); 12] = [
         ("written and read", written_and_read),
         ("damaged bytes", damaged_bytes),
         ("changed values", changed_values),
@@ -44,9 +46,10 @@ pub fn run(seed: u64, count: usize) -> bool {
         ("runs of edits", runs_of_edits),
         ("place over a stranger's stairs", place_over_stairs),
         ("edit over a stranger's stairs", edit_over_stairs),
+        ("score and cells", score_and_cells),
     ];
     let mut chance = Chance(seed);
-    let mut made = [0; 11];
+    let mut made = [0; 12];
     let mut wrong = 0;
     for _ in 0..count {
         let design = random_design(&mut chance);
@@ -183,6 +186,7 @@ fn changed_values(chance: &mut Chance, design: &Design) -> Outcome {
     demand(list(&changed, &mut lent) == number, "list")?;
     demand(check(&changed, &lent).number == number, "check")?;
     demand(check(&changed, &lent).name == 0, "check names 0")?;
+    demand(score(&changed, &lent, &[], &[]).number == number, "score")?;
     let mut rows = before.clone();
     demand(
         plan(&changed, &mut lent, &mut rows).number == number,
@@ -552,4 +556,92 @@ fn contains_a_shape(design: &Design, work: &[u8], t: usize, r: Rectangle) -> boo
         }
     }
     false
+}
+
+/// The score is what a count of cells and of pairs of centres comes to, also where it is refused.
+fn score_and_cells(chance: &mut Chance, design: &Design) -> Outcome {
+    let mut rows = lent_rows(design);
+    let planned = plan(design, &mut lent_work(design), &mut rows);
+    if planned.number != DONE {
+        rows = random_rows(chance, design);
+    }
+    for _ in 0..8 {
+        let (terms, nets) = (random_terms(chance), random_nets(chance, design.modules));
+        let reply = score(design, &rows, &terms, &nets);
+        let checked = check(design, &rows);
+        let number = match checked.number {
+            DONE => judged(design, &terms, &nets),
+            refused => refused,
+        };
+        demand(reply.number == number, "another number")?;
+        demand(reply.name == checked.name, "another name than the checker's")?;
+        let expected = match number {
+            DONE => scored_by_cells(design, &rows, &terms, &nets),
+            _ => [0.0, 0.0],
+        };
+        let got = [reply.scored.total, reply.scored.last];
+        demand(got.map(f64::to_bits) == expected.map(f64::to_bits), "another score")?;
+        if chance.once_in(4) {
+            change_row(chance, design, &mut rows);
+        }
+    }
+    Ok(true)
+}
+
+/// 15, 16 or 0. Weights are told by their bits, which rise with the number above zero; a module is
+/// missing if no token names it.
+fn judged(design: &Design, terms: &[Term], nets: &[Net]) -> Number {
+    let most = 1_000_000_f64.to_bits();
+    let minus_zero = 1 << 63;
+    let in_range = |term: &Term| term.weight.to_bits() <= most || term.weight.to_bits() == minus_zero;
+    if terms.len() > 8 || terms.iter().any(|term| !in_range(term)) {
+        return BAD_TERM;
+    }
+    let missing = |k: &usize| !design.tree().contains(&(k + 2));
+    let no_net = |net: &Net| net.is_empty() || net.len() > 16 || net.iter().any(missing);
+    if nets.len() > 32 || nets.iter().any(no_net) {
+        return BAD_NET;
+    }
+    DONE
+}
+
+/// The total and the last amount.
+fn scored_by_cells(design: &Design, rows: &[u8], terms: &[Term], nets: &[Net]) -> [f64; 2] {
+    let amount = |term: &Term| match term.kind {
+        Kind::Area => cells_of_the_box(design, rows) as f64,
+        Kind::Wire => nets.iter().map(|net| farthest_apart(rows, net)).sum::<usize>() as f64,
+        Kind::Ratio => {
+            let sides = (0..design.modules).map(|k| row(rows, k).shape);
+            let both = sides.flat_map(|s| [(s.w.0, s.h.0), (s.h.0, s.w.0)]);
+            both.fold(0.0, |sum, (a, b)| sum + a as f64 / b as f64)
+        }
+    };
+    let total = terms.iter().fold(0.0, |sum, term| sum + amount(term) * term.weight);
+    [total, terms.last().map_or(0.0, amount)]
+}
+
+/// Counts the cells of the chip that have a module's cell in their column or right of it, and one
+/// in their row or above it.
+fn cells_of_the_box(design: &Design, rows: &[u8]) -> usize {
+    let modules = || (0..design.modules).map(|k| row(rows, k));
+    let in_box = |cell: &Corner| {
+        modules().any(|r| cell.x < r.right()) && modules().any(|r| cell.y < r.top())
+    };
+    design.chip.corners().iter().filter(|cell| in_box(cell)).count()
+}
+
+/// Of all pairs of members, how far two doubled centres are apart at most across, and up.
+fn farthest_apart(rows: &[u8], net: &Net) -> usize {
+    let centre = |k: usize| {
+        let [x, y, w, h] = [0, 1, 2, 3].map(|i| usize::from(rows[4 * k + i]));
+        (2 * x + w, 2 * y + h)
+    };
+    let (mut across, mut up) = (0, 0);
+    for &a in net {
+        for &b in net {
+            across = across.max(centre(a).0.abs_diff(centre(b).0));
+            up = up.max(centre(a).1.abs_diff(centre(b).1));
+        }
+    }
+    across + up
 }
