@@ -23,6 +23,8 @@ mod lists;
 mod random;
 #[path = "../reference/src/reply.rs"]
 mod reply;
+#[path = "../reference/src/score.rs"]
+mod score;
 #[path = "../reference/src/shapes.rs"]
 mod shapes;
 #[path = "../reference/src/tree.rs"]
@@ -32,6 +34,7 @@ use design::Design;
 use edit::Edit;
 use random::Chance;
 use reply::DONE;
+use score::{Kind, Net, Term};
 use std::fs::File;
 use std::io::{self, BufWriter, Write};
 use std::process::ExitCode;
@@ -39,16 +42,20 @@ use std::process::ExitCode;
 /// The longest lawful design: `out` has to have room for it when an edit is asked.
 const DESIGN_ROOM: usize = 244;
 
-/// What is lent: a design's bytes, work, rows, and a place for a design's bytes. The driver holds the same.
+/// What is lent: a design's bytes, work, rows, a place for a design's bytes, and a score's kinds, weights and nets. The driver holds the
+/// same.
 #[derive(Default)]
 struct Lent {
     bytes: Vec<u8>,
     work: Vec<u8>,
     rows: Vec<u8>,
     out: Vec<u8>,
+    kinds: Vec<u8>,
+    weights: Vec<u8>,
+    nets: Vec<u8>,
 }
 
-/// An answer: the number, the value, and the box's width and height.
+/// An answer: the number, the value, and the box's width and height, or the bits of a score's total and last amount.
 type Answer = [usize; 4];
 
 fn plainly(number: u8, value: usize) -> Answer {
@@ -84,17 +91,22 @@ impl Caller {
             b'b' => &mut lent.bytes,
             b'w' => &mut lent.work,
             b'r' => &mut lent.rows,
-            _ => &mut lent.out,
+            b'o' => &mut lent.out,
+            b'k' => &mut lent.kinds,
+            b'g' => &mut lent.weights,
+            _ => &mut lent.nets,
         } = bytes;
         Ok(())
     }
 
     fn expect(&mut self, call: &str, answer: Answer) -> io::Result<()> {
-        let Lent { bytes, work, rows, out } = &self.lent;
+        let Lent { bytes, work, rows, out, kinds, weights, nets } = &self.lent;
         // FNV-1a with 64 bits over all that is lent
         let mut sum: u64 = 0xcbf2_9ce4_8422_2325;
-        for &byte in bytes.iter().chain(work).chain(rows).chain(out) {
-            sum = (sum ^ u64::from(byte)).wrapping_mul(0x0100_0000_01b3);
+        for buffer in [bytes, work, rows, out, kinds, weights, nets] {
+            for &byte in buffer {
+                sum = (sum ^ u64::from(byte)).wrapping_mul(0x0100_0000_01b3);
+            }
         }
         let [number, value, width, height] = answer;
         self.calls += 1;
@@ -158,6 +170,14 @@ impl Caller {
         })
     }
 
+    fn score(&mut self) -> io::Result<Answer> {
+        self.ask(b'V', "score", |design, lent| {
+            let reply = score::score(design, &lent.rows, &terms_of(lent), &nets_of(&lent.nets));
+            let [total, last] = [reply.scored.total, reply.scored.last].map(|number| number.to_bits() as usize);
+            [reply.number.into(), reply.name, total, last]
+        })
+    }
+
     /// Edits; the design that a granted edit hands back is the next one to be handed over.
     fn edit(&mut self, wanted: Edit) -> io::Result<Answer> {
         let call = match wanted {
@@ -188,6 +208,40 @@ fn edit_into_out(design: &Design, wanted: Edit, lent: &mut Lent) -> Answer {
     }
     let written = bytes::write(&reply.design, &mut lent.out);
     plainly(written.number, written.count)
+}
+
+/// What is no term in C is refused as one whose weight is not a number.
+const NO_TERM: Term = Term { kind: Kind::Area, weight: f64::NAN };
+
+/// The terms that stand in kinds and weights, which have to be as many.
+fn terms_of(lent: &Lent) -> Vec<Term> {
+    let number = |bits: &[u8]| f64::from_le_bytes(bits.try_into().expect("eight bytes"));
+    let weights: Vec<f64> = lent.weights.chunks_exact(8).map(number).collect();
+    if weights.len() != lent.kinds.len() {
+        return vec![NO_TERM];
+    }
+    let term = |(&kind, weight): (&u8, f64)| match kind {
+        0 => Term { kind: Kind::Area, weight },
+        1 => Term { kind: Kind::Ratio, weight },
+        2 => Term { kind: Kind::Wire, weight },
+        _ => NO_TERM,
+    };
+    lent.kinds.iter().zip(weights).map(term).collect()
+}
+
+/// The nets that stand one after another, each with its length before it. Bytes that end inside a net are refused as an empty one.
+fn nets_of(bytes: &[u8]) -> Vec<Net> {
+    let mut nets = Vec::new();
+    let mut rest = bytes;
+    while let [n, after @ ..] = rest {
+        let members = after.get(..usize::from(*n)).unwrap_or(&[]);
+        nets.push(members.iter().map(|&k| k.into()).collect());
+        if members.len() < usize::from(*n) {
+            break;
+        }
+        rest = &after[members.len()..];
+    }
+    nets
 }
 
 fn bytes_of(design: &Design) -> Vec<u8> {
@@ -221,6 +275,56 @@ fn lend_for(caller: &mut Caller, chance: &mut Chance, design: &Design) -> io::Re
     caller.lend(b'w', some_bytes(chance, work))?;
     caller.lend(b'r', some_bytes(chance, rows))?;
     caller.lend(b'o', some_bytes(chance, out))
+}
+
+/// Lends terms and nets, as a rule lawful ones, and now and then some that are none in C alone.
+fn lend_score(caller: &mut Caller, chance: &mut Chance, modules: usize) -> io::Result<()> {
+    let terms = random::random_terms(chance);
+    let mut kinds: Vec<u8> = terms.iter().map(|term| term.kind as u8).collect();
+    let mut weights: Vec<u8> = terms.iter().flat_map(|term| term.weight.to_le_bytes()).collect();
+    let mut nets = Vec::new();
+    for net in random::random_nets(chance, modules) {
+        nets.push(net.len() as u8);
+        nets.extend(net.iter().map(|&k| k as u8));
+    }
+    match chance.below(24) {
+        0 => kinds.push(chance.byte() % 3),
+        1 => weights.extend(1.0_f64.to_le_bytes()),
+        2 if !kinds.is_empty() => {
+            let place = chance.below(kinds.len());
+            kinds[place] = chance.byte().max(3);
+        }
+        3 => nets.truncate(chance.below(nets.len() + 1)),
+        4 => random::damage(chance, &mut nets),
+        _ => (),
+    }
+    caller.lend(b'k', kinds)?;
+    caller.lend(b'g', weights)?;
+    caller.lend(b'n', nets)
+}
+
+/// A planned floorplan, or any rows where there is none, scored by several lists of terms and nets; now and then with a fault in the rows.
+fn scores(caller: &mut Caller, chance: &mut Chance, design: &Design) -> io::Result<()> {
+    lend_for(caller, chance, design)?;
+    let planned = caller.plan()?;
+    let times = if planned[0] == usize::from(DONE) { 8 } else { 2 };
+    if planned[0] != usize::from(DONE) && chance.once_in(2) {
+        let rows = random::random_rows(chance, design);
+        caller.lend(b'r', rows)?;
+    }
+    for _ in 0..chance.between(1, times) {
+        lend_score(caller, chance, design.modules)?;
+        caller.score()?;
+        let rows = caller.lent.rows.clone();
+        if rows.len() >= design.rows_needed() && chance.once_in(6) {
+            let mut changed = rows.clone();
+            random::change_row(chance, design, &mut changed);
+            caller.lend(b'r', changed)?;
+            caller.score()?;
+            caller.lend(b'r', rows)?;
+        }
+    }
+    Ok(())
 }
 
 /// A whole design: read, written, listed, planned, placed, and its floorplan checked, also with a fault in it.
@@ -260,12 +364,14 @@ fn damaged(caller: &mut Caller, chance: &mut Chance, design: &Design) -> io::Res
     caller.read()?;
     caller.sizes()?;
     let wanted = random::random_edit(chance, design);
-    match chance.below(6) {
+    lend_score(caller, chance, design.modules)?;
+    match chance.below(7) {
         0 => caller.write(),
         1 => caller.list(),
         2 => caller.plan(),
         3 => caller.place(),
         4 => caller.check(),
+        5 => caller.score(),
         _ => caller.edit(wanted),
     }?;
     Ok(())
@@ -335,11 +441,12 @@ fn large_design(chance: &mut Chance, turn: usize) -> Design {
 /// Every so many cases a large one.
 const LARGE: usize = 200;
 
-const KINDS: [(&str, fn(&mut Caller, &mut Chance, &Design) -> io::Result<()>); 4] = [
+const KINDS: [(&str, fn(&mut Caller, &mut Chance, &Design) -> io::Result<()>); 5] = [
     ("whole designs", whole),
     ("damaged designs", damaged),
     ("edit runs", edit_run),
     ("strangers' stairs", stranger),
+    ("scores", scores),
 ];
 
 fn make(seed: u64, count: usize, file: &str) -> io::Result<()> {

@@ -18,7 +18,15 @@ struct lent {
     size_t length;
 };
 
-static struct lent bytes, work, rows, out;
+static struct lent bytes, work, rows, out, kinds, weights, nets;
+
+/* All that is lent, in the order of the sum, each by the letter of the request that lends it. */
+static const struct {
+    int letter;
+    struct lent *buffer;
+} all[] = {{'b', &bytes}, {'w', &work}, {'r', &rows}, {'o', &out}, {'k', &kinds}, {'g', &weights}, {'n', &nets}};
+enum { BUFFERS = sizeof all / sizeof all[0] };
+
 static uintmax_t calls;
 
 static void fail(const char *what)
@@ -56,12 +64,15 @@ static uint64_t summed(uint64_t sum, const struct lent *buffer)
 
 static void answer(const char *call, size_t number, size_t value, size_t width, size_t height)
 {
+    uint64_t sum = 0xcbf29ce484222325;
     calls++;
-    if (!(guarded(&bytes) && guarded(&work) && guarded(&rows) && guarded(&out))) {
-        fprintf(stderr, "driver: call %ju (%s) wrote outside of what was lent\n", calls, call);
-        exit(1);
+    for (int i = 0; i < BUFFERS; i++) {
+        if (!guarded(all[i].buffer)) {
+            fprintf(stderr, "driver: call %ju (%s) wrote outside of what was lent\n", calls, call);
+            exit(1);
+        }
+        sum = summed(sum, all[i].buffer);
     }
-    uint64_t sum = summed(summed(summed(summed(0xcbf29ce484222325, &bytes), &work), &rows), &out);
     printf("%s %zu %zu %zu %zu %016" PRIx64 "\n", call, number, value, width, height, sum);
 }
 
@@ -92,6 +103,24 @@ static void edited(const char *call, size_t reply, size_t value)
         lend(&bytes, value);
         memcpy(bytes.at, out.at, value);
     }
+}
+
+/* The bits of a double, as a number. */
+static size_t bits(double number)
+{
+    uint64_t n;
+    memcpy(&n, &number, sizeof n);
+    return n;
+}
+
+/* A score's answer has the bits of the total and of the last amount for the box. A buffer begins where any number may. */
+static void score(void)
+{
+    double total = 99, last = 99;
+    size_t value = 99;
+    size_t reply = cellweaver_score(bytes.at, bytes.length, rows.at, rows.length, kinds.at, kinds.length, (const double *)weights.at,
+                                    weights.length / sizeof(double), nets.at, nets.length, &total, &last, &value);
+    answer("score", reply, value, bits(total), bits(last));
 }
 
 static void call(int request)
@@ -127,6 +156,9 @@ static void call(int request)
         reply = cellweaver_check(bytes.at, bytes.length, rows.at, rows.length, &value);
         answer("check", reply, value, 0, 0);
         break;
+    case 'V':
+        score();
+        break;
     case 'N': {
         size_t k = number(), clbs = number(), rams = number(), multipliers = number();
         reply = cellweaver_edit_need(bytes.at, bytes.length, k, clbs, rams, multipliers, work.at, work.length, out.at, out.length, &value);
@@ -147,28 +179,24 @@ static void call(int request)
     }
 }
 
+static struct lent *lent_by(int request)
+{
+    for (int i = 0; i < BUFFERS; i++)
+        if (all[i].letter == request)
+            return all[i].buffer;
+    return NULL;
+}
+
 int main(void)
 {
-    lend(&bytes, 0);
-    lend(&work, 0);
-    lend(&rows, 0);
-    lend(&out, 0);
-    for (int request = getchar(); request != EOF; request = getchar())
-        switch (request) {
-        case 'b':
-            take(&bytes);
-            break;
-        case 'w':
-            take(&work);
-            break;
-        case 'r':
-            take(&rows);
-            break;
-        case 'o':
-            take(&out);
-            break;
-        default:
+    for (int i = 0; i < BUFFERS; i++)
+        lend(all[i].buffer, 0);
+    for (int request = getchar(); request != EOF; request = getchar()) {
+        struct lent *buffer = lent_by(request);
+        if (buffer != NULL)
+            take(buffer);
+        else
             call(request);
-        }
+    }
     return fflush(stdout) == 0 ? 0 : 2;
 }

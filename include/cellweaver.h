@@ -8,12 +8,12 @@
  * A function returns the reply's number, and puts what stands beside it into *value: the position of the number at fault (1 to 7), a count
  * of bytes (0 from write and the edits), a module (12, 13) or a token's position (14), and 0 with any other reply.
  *
- * What is lent: a pointer and the number of bytes there. Bytes that a function only reads are const. No pointer is NULL, also where the
- * length is 0, and places that a function writes overlap nothing else that it is handed. The library allocates nothing, keeps nothing
+ * What is lent: a pointer and the number of bytes there, or of weights. What a function only reads is const. No pointer is NULL, also where
+ * the length is 0, and places that a function writes overlap nothing else that it is handed. The library allocates nothing, keeps nothing
  * between calls and calls nothing but memcpy and memset, so calls on different buffers may run at the same time.
  *
  * Unless the reply is 0, every lent byte stands as it was; one exception: after cellweaver_plan's 10 work holds the full lists. A place for
- * one number, as *value or *width, is set by every call.
+ * one number, as *value, *width or *total, is set by every call.
  */
 #ifndef CELLWEAVER_H
 #define CELLWEAVER_H
@@ -41,11 +41,18 @@ extern "C" {
 #define CELLWEAVER_OFF_THE_CHIP 12  /* a module off the chip, or of no width or height */
 #define CELLWEAVER_SHORT_OF_NEED 13 /* a module whose rectangle does not hold its need */
 #define CELLWEAVER_CUT_NOT_KEPT 14
+#define CELLWEAVER_BAD_TERM 15      /* a ninth term, no such kind, or a weight outside 0 to 1,000,000 or not a number */
+#define CELLWEAVER_BAD_NET 16       /* a 33rd net, or one that is empty, has more than 16 members or names no module */
 
 /* The most bytes that a lawful design takes, its rows, and its lists. What one design wants, cellweaver_sizes says. */
 #define CELLWEAVER_MOST_BYTES 244
 #define CELLWEAVER_MOST_ROWS 64
 #define CELLWEAVER_MOST_WORK 8126464
+
+/* The kinds of a score's terms. */
+#define CELLWEAVER_AREA 0
+#define CELLWEAVER_RATIO 1
+#define CELLWEAVER_WIRE 2
 
 /* Reads a design. 0, or 1 to 7 with the position. */
 size_t cellweaver_read(const uint8_t *bytes, size_t bytes_length, size_t *value);
@@ -82,6 +89,17 @@ size_t cellweaver_edit_turn(const uint8_t *bytes, size_t bytes_length, size_t po
 
 /* Judges a floorplan, without lists. 0, 8, 12 or 13 with the module, 14 with the position of the cut among the tokens. */
 size_t cellweaver_check(const uint8_t *bytes, size_t bytes_length, const uint8_t *rows, size_t rows_length, size_t *value);
+
+/* Scores a floorplan that the checker passes. Term i is of the kind kinds[i] and has the weight weights[i], which may be any bits;
+   weights_length counts doubles, and is kinds_length. `nets` has for each net the number n of its members, 1 to 16, and then the n modules,
+   one net after another. The amount of an area term is w times h of the box from the chip's lower left corner; of a ratio term w/h and then
+   h/w of each module, added up in module order; of a wire term, added up over the nets, the half perimeter of the box round the members'
+   doubled centres 2x+w and 2y+h. Each amount times its weight is added to *total, in the order of the terms, and *last is the last amount
+   without its weight; each division, product and sum rounds once. Both are 0 with no terms, and unless the reply is 0. 0; 8, 12, 13 and 14
+   as from cellweaver_check; then 15, also where kinds and weights are not as many; then 16, also where the bytes end inside a net. */
+size_t cellweaver_score(const uint8_t *bytes, size_t bytes_length, const uint8_t *rows, size_t rows_length, const uint8_t *kinds,
+                        size_t kinds_length, const double *weights, size_t weights_length, const uint8_t *nets, size_t nets_length,
+                        double *total, double *last, size_t *value);
 
 #ifdef __cplusplus
 }
