@@ -91,6 +91,13 @@ static int edit_file(const struct file *file, int module, struct need need, enum
     return number ? number : plain_edit(&d, module, need, way, plain_work, WORK);
 }
 
+static struct score score_file(const struct file *file, const byte *rows, const struct cost *cost)
+{
+    struct design d;
+    struct answer read = plain_read(file->bytes, file->length, &d);
+    return read.number ? (struct score){read.number, read.beside, 0, 0} : plain_score(&d, rows, ROWS, cost);
+}
+
 static int plan_file(const struct file *file, byte *rows)
 {
     struct design d;
@@ -207,6 +214,41 @@ static void measure_plan(const char *name, const struct design *d)
     line(name, "plan; C by all pairs", a, b, 0);
 }
 
+// As many terms and nets as there may be: terms of all kinds, weights that round, nets of 2 to 16 of the 16 modules.
+static const byte KINDS[MOST_TERMS] = {AREA, RATIO, WIRE, RATIO, WIRE, AREA, RATIO, WIRE};
+static const double WEIGHTS[MOST_TERMS] = {1, 0.1, 1.0 / 3, 1000000, 0.7, 2.5, 12345.678, 1e-9};
+
+static size_t put_nets(byte *nets)
+{
+    size_t length = 0;
+    for (int net = 0; net < MOST_NETS; net++) {
+        int members = 2 + net % (MOST_NAMES - 1);
+        nets[length++] = members;
+        for (int i = 0; i < members; i++)
+            nets[length++] = (5 * net + 3 * i) % MOST_MODULES;
+    }
+    return length;
+}
+
+static void measure_score(const char *name, const struct design *d)
+{
+    struct file file = file_of(d);
+    byte rows[ROWS], nets[MOST_NETS * (1 + MOST_NAMES)];
+    struct cost cost = {KINDS, MOST_TERMS, WEIGHTS, MOST_TERMS, nets, put_nets(nets)};
+    struct score proved = {0, 0, BEFORE, BEFORE}, plain = {0, 0, BEFORE, BEFORE};
+    count a, b;
+    same(name, "plan", plain_plan(d, BY_ROWS, plain_work, WORK, rows, ROWS).number == 0);
+    COUNT(a, proved.number = cellweaver_score(file.bytes, file.length, rows, ROWS, KINDS, MOST_TERMS, WEIGHTS,
+                                              MOST_TERMS, nets, cost.nets_length, &proved.total, &proved.last,
+                                              &proved.name));
+    COUNT(b, plain = score_file(&file, rows, &cost));
+    // bit by bit, and not as numbers
+    same(name, "score", proved.number == 0 && plain.number == 0 && proved.name == plain.name
+                            && memcmp(&proved.total, &plain.total, sizeof plain.total) == 0
+                            && memcmp(&proved.last, &plain.last, sizeof plain.last) == 0);
+    line(name, "score", a, b, 1.5);
+}
+
 static void measure_bytes(const char *name, const struct design *d)
 {
     struct file file = file_of(d);
@@ -244,6 +286,8 @@ int main(int arguments, char **argument)
     measure_edit("deep", &DEEP, 0, (struct need){36, 2, 1});
     measure_plan("D", &D);
     measure_plan("pad kit", &PAD_KIT);
+    measure_score("levels", &LEVELS);
+    measure_score("deep", &DEEP);
     measure_bytes("levels", &LEVELS);
     measure_bytes("D", &D);
     return 0;

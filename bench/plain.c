@@ -525,3 +525,157 @@ struct box plain_plan(const struct design *d, enum way way, byte *work, size_t r
     go_down(d, work, box, rows);
     return (struct box){0, box.w, box.h};
 }
+
+// ---- the checker
+
+static struct place row_of(const byte *rows, int k)
+{
+    return (struct place){rows[4 * k], rows[4 * k + 1], rows[4 * k + 2], rows[4 * k + 3]};
+}
+
+static int on_the_chip(const struct design *d, struct place p)
+{
+    return p.w > 0 && p.h > 0 && p.x + p.w <= d->width && p.y + p.h <= d->height;
+}
+
+static int place_suits(const struct design *d, struct place p, struct need n)
+{
+    int columns[3] = {0};
+    for (int x = p.x; x < p.x + p.w; x++)
+        columns[d->kinds[x]]++;
+    return suits(columns, n, d->block, p.y, p.y + p.h);
+}
+
+// What the modules below a node cover, across and up: from the least begin to the greatest end. A cut is kept if its
+// left side ends where its right side begins, or before.
+struct span {
+    int x, right, y, top;
+};
+
+static struct span both(struct span a, struct span b)
+{
+    return (struct span){a.x < b.x ? a.x : b.x, a.right > b.right ? a.right : b.right,
+                         a.y < b.y ? a.y : b.y, a.top > b.top ? a.top : b.top};
+}
+
+// The position of the first cut that is not kept, or -1.
+static int cut_not_kept(const struct design *d, const byte *rows)
+{
+    struct span standing[MOST_MODULES];
+    int count = 0;
+    for (int t = 0; t < 2 * d->modules - 1; t++) {
+        int token = d->tokens[t];
+        if (token >= 2) {
+            struct place p = row_of(rows, token - 2);
+            standing[count++] = (struct span){p.x, p.x + p.w, p.y, p.y + p.h};
+            continue;
+        }
+        struct span left = standing[count - 2], right = standing[count - 1];
+        if (token == 0 ? left.right > right.x : left.top > right.y)
+            return t;
+        standing[--count - 1] = both(left, right);
+    }
+    return -1;
+}
+
+struct answer plain_check(const struct design *d, const byte *rows, size_t room)
+{
+    int number = value_test(d);
+    if (number)
+        return (struct answer){number, 0};
+    if (room < 4 * (size_t)d->modules)
+        return (struct answer){8, 0};
+    for (int k = 0; k < d->modules; k++) {
+        struct place p = row_of(rows, k);
+        if (!on_the_chip(d, p))
+            return (struct answer){12, k};
+        if (!place_suits(d, p, d->needs[k]))
+            return (struct answer){13, k};
+    }
+    int t = cut_not_kept(d, rows);
+    if (t >= 0)
+        return (struct answer){14, t};
+    return (struct answer){0, 0};
+}
+
+// ---- the score
+
+static int lawful_terms(const struct cost *c)
+{
+    if (c->kinds_length > MOST_TERMS || c->weights_length != c->kinds_length)
+        return 0;
+    for (size_t i = 0; i < c->kinds_length; i++)
+        // not so for what is not a number, whatever it is compared with
+        if (c->kinds[i] > WIRE || !(c->weights[i] >= 0 && c->weights[i] <= MOST_WEIGHT))
+            return 0;
+    return 1;
+}
+
+static int lawful_nets(const struct cost *c, int modules)
+{
+    int count = 0;
+    for (size_t at = 0; at < c->nets_length; at += 1 + c->nets[at]) {
+        size_t n = c->nets[at];
+        if (++count > MOST_NETS || n < 1 || n > MOST_NAMES || n > c->nets_length - at - 1)
+            return 0;
+        for (size_t i = 1; i <= n; i++)
+            if (c->nets[at + i] >= modules)
+                return 0;
+    }
+    return 1;
+}
+
+static int area(const struct design *d, const byte *rows)
+{
+    int right = 0, top = 0;
+    for (int k = 0; k < d->modules; k++) {
+        struct place p = row_of(rows, k);
+        right = p.x + p.w > right ? p.x + p.w : right;
+        top = p.y + p.h > top ? p.y + p.h : top;
+    }
+    return right * top;
+}
+
+static double ratio(const struct design *d, const byte *rows)
+{
+    double sum = 0;
+    for (int k = 0; k < d->modules; k++) {
+        double w = rows[4 * k + 2], h = rows[4 * k + 3];
+        sum += w / h;
+        sum += h / w;
+    }
+    return sum;
+}
+
+static int wire(const byte *rows, const struct cost *c)
+{
+    int sum = 0;
+    for (size_t at = 0; at < c->nets_length; at += 1 + c->nets[at]) {
+        struct span box = {0};
+        for (int i = 1; i <= c->nets[at]; i++) {
+            struct place p = row_of(rows, c->nets[at + i]);
+            int x = 2 * p.x + p.w, y = 2 * p.y + p.h;
+            struct span centre = {x, x, y, y};
+            box = i == 1 ? centre : both(box, centre);
+        }
+        sum += box.right - box.x + box.top - box.y;
+    }
+    return sum;
+}
+
+struct score plain_score(const struct design *d, const byte *rows, size_t room, const struct cost *c)
+{
+    struct answer checked = plain_check(d, rows, room);
+    if (checked.number)
+        return (struct score){checked.number, checked.beside, 0, 0};
+    if (!lawful_terms(c))
+        return (struct score){15, 0, 0, 0};
+    if (!lawful_nets(c, d->modules))
+        return (struct score){16, 0, 0, 0};
+    struct score s = {0, 0, 0, 0};
+    for (size_t i = 0; i < c->kinds_length; i++) {
+        s.last = c->kinds[i] == AREA ? area(d, rows) : c->kinds[i] == RATIO ? ratio(d, rows) : wire(rows, c);
+        s.total += s.last * c->weights[i];
+    }
+    return s;
+}

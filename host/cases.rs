@@ -42,8 +42,8 @@ use std::process::ExitCode;
 /// The longest lawful design: `out` has to have room for it when an edit is asked.
 const DESIGN_ROOM: usize = 244;
 
-/// What is lent: a design's bytes, work, rows, a place for a design's bytes, and a score's kinds, weights and nets. The driver holds the
-/// same.
+/// What is lent: a design's bytes, work, rows, a place for a design's bytes, and a score's kinds, weights and nets. The
+/// driver holds the same.
 #[derive(Default)]
 struct Lent {
     bytes: Vec<u8>,
@@ -229,7 +229,8 @@ fn terms_of(lent: &Lent) -> Vec<Term> {
     lent.kinds.iter().zip(weights).map(term).collect()
 }
 
-/// The nets that stand one after another, each with its length before it. Bytes that end inside a net are refused as an empty one.
+/// The nets that stand one after another, each with its length before it. Bytes that end inside a net are refused as an
+/// empty one.
 fn nets_of(bytes: &[u8]) -> Vec<Net> {
     let mut nets = Vec::new();
     let mut rest = bytes;
@@ -303,7 +304,8 @@ fn lend_score(caller: &mut Caller, chance: &mut Chance, modules: usize) -> io::R
     caller.lend(b'n', nets)
 }
 
-/// A planned floorplan, or any rows where there is none, scored by several lists of terms and nets; now and then with a fault in the rows.
+/// A planned floorplan, or any rows where there is none, scored by several lists of terms and nets; now and then with a
+/// fault in the rows.
 fn scores(caller: &mut Caller, chance: &mut Chance, design: &Design) -> io::Result<()> {
     lend_for(caller, chance, design)?;
     let planned = caller.plan()?;

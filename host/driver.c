@@ -113,13 +113,14 @@ static size_t bits(double number)
     return n;
 }
 
-/* A score's answer has the bits of the total and of the last amount for the box. A buffer begins where any number may. */
+/* A score's answer has the bits of the total and of the last amount for the box. A buffer begins where a double may. */
 static void score(void)
 {
     double total = 99, last = 99;
     size_t value = 99;
-    size_t reply = cellweaver_score(bytes.at, bytes.length, rows.at, rows.length, kinds.at, kinds.length, (const double *)weights.at,
-                                    weights.length / sizeof(double), nets.at, nets.length, &total, &last, &value);
+    const double *numbers = (const double *)weights.at;
+    size_t reply = cellweaver_score(bytes.at, bytes.length, rows.at, rows.length, kinds.at, kinds.length, numbers,
+                                    weights.length / sizeof *numbers, nets.at, nets.length, &total, &last, &value);
     answer("score", reply, value, bits(total), bits(last));
 }
 

@@ -90,16 +90,18 @@ size_t cellweaver_edit_turn(const uint8_t *bytes, size_t bytes_length, size_t po
 /* Judges a floorplan, without lists. 0, 8, 12 or 13 with the module, 14 with the position of the cut among the tokens. */
 size_t cellweaver_check(const uint8_t *bytes, size_t bytes_length, const uint8_t *rows, size_t rows_length, size_t *value);
 
-/* Scores a floorplan that the checker passes. Term i is of the kind kinds[i] and has the weight weights[i], which may be any bits;
-   weights_length counts doubles, and is kinds_length. `nets` has for each net the number n of its members, 1 to 16, and then the n modules,
-   one net after another. The amount of an area term is w times h of the box from the chip's lower left corner; of a ratio term w/h and then
-   h/w of each module, added up in module order; of a wire term, added up over the nets, the half perimeter of the box round the members'
-   doubled centres 2x+w and 2y+h. Each amount times its weight is added to *total, in the order of the terms, and *last is the last amount
-   without its weight; each division, product and sum rounds once. Both are 0 with no terms, and unless the reply is 0. 0; 8, 12, 13 and 14
-   as from cellweaver_check; then 15, also where kinds and weights are not as many; then 16, also where the bytes end inside a net. */
-size_t cellweaver_score(const uint8_t *bytes, size_t bytes_length, const uint8_t *rows, size_t rows_length, const uint8_t *kinds,
-                        size_t kinds_length, const double *weights, size_t weights_length, const uint8_t *nets, size_t nets_length,
-                        double *total, double *last, size_t *value);
+/* Scores a floorplan that the checker passes. Term i is of the kind kinds[i] and has the weight weights[i], which may
+   be any bits; weights_length counts doubles, and is kinds_length. `nets` has for each net the number n of its members,
+   1 to 16, and then the n modules, one net after another. The amount of an area term is w times h of the box from the
+   chip's lower left corner; of a ratio term w/h and then h/w of each module, added up in module order; of a wire term,
+   added up over the nets, the half perimeter of the box round the members' doubled centres 2x+w and 2y+h. Each amount
+   times its weight is added to *total, in the order of the terms, and *last is the last amount without its weight; each
+   division, product and sum rounds once. Both are 0 with no terms, and unless the reply is 0. 0; 8, 12, 13 and 14 as
+   from cellweaver_check; then 15, also where kinds and weights are not as many; then 16, also where the bytes end
+   inside a net. */
+size_t cellweaver_score(const uint8_t *bytes, size_t bytes_length, const uint8_t *rows, size_t rows_length,
+                        const uint8_t *kinds, size_t kinds_length, const double *weights, size_t weights_length,
+                        const uint8_t *nets, size_t nets_length, double *total, double *last, size_t *value);
 
 #ifdef __cplusplus
 }
