@@ -194,7 +194,5 @@ pub fn score(
     if !are_nets(design.modules, nets, net_count) {
         return Scored::Refused(Refusal::BadNet);
     }
-    Scored::Values(score_rows(
-        design, rows, terms, term_count, nets, net_count,
-    ))
+    Scored::Values(score_rows(design, rows, terms, term_count, nets, net_count))
 }

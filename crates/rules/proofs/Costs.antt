@@ -1,6 +1,6 @@
 -- Costs that agree at all places that count have the same score, and so have same designs. A net's half perimeter hangs on which modules it
 -- names alone: the greatest and the least centre are those of a member. Assumes nothing.
-use mathlib.Core.Path.{_≡_, refl, sym, _∙_}
+use mathlib.Core.Path.{_≡_, refl, sym, _∙_, ap}
 use mathlib.Core.Bool.{So}
 use mathlib.Core.List.{List}
 use Prim.Native.Nat.{ℕ, zero, suc, _-_, _≤_, _<_}
@@ -13,11 +13,15 @@ use Rattle.rules.specs.declared.Direction.the-variants.{Vertical, Horizo
 use Rattle.rules.specs.declared.Term.{Term}
 use Rattle.rules.specs.declared.Term.the-variants.{Area, Ratio, Wire}
 use Rattle.rules.specs.declared.Net.{Net}
+use Rattle.rules.specs.declared.Scored.{Scored}
+use Rattle.rules.specs.declared.Scored.the-variants.{Values}
 use Rattle.rules.specs.Placement.{Placement}
 use Rattle.rules.specs.Design.{SameDesign}
+use Rattle.rules.specs.Check.{fromRows}
+use Rattle.rules.specs.Service.{Scores}
 use Rattle.rules.specs.Score.{Cost, termAt, netAt, memberAt, weightOf, lawfulWeight, lawfulTerms, lawfulNet, lawfulNets, areaOf, greatestTo, leastTo, centresOf, spread, halfPerimeter, wireOf, amountOf, scoreAfter, scoreOf, SameNet, SameCost}
 use Rattle.rules.proofs.Below.{all-below}
-use Rattle.rules.proofs.Same.{root-same}
+use Rattle.rules.proofs.Same.{same-refl, root-same}
 use Rattle.rules.proofs.Greatest.{greatest-most, least-most, greatest-in, least-in}
 use Rattle.rules.proofs.Scoring.{NetLimits, nets-limits}
 
@@ -101,3 +105,14 @@ module _ {a b : Cost} (z : SameCost a b) where
 
       pub score-same : scoreOf d p a ≡ scoreOf e p b
       score-same = after-same (a .termCount) (le-refl (a .termCount)) ∙ rw (z .termCount)
+
+-- so an answer that a score may give for one of two same costs it may give for the other
+pub scores-alike : (d : Design) (rows : List ℕ) {a b : Cost} {r : Scored} → SameCost a b → Scores d rows a r → Scores d rows b r
+scores-alike d rows {a} {b} z s =
+    let t = terms-same z in let n = nets-same z (same-refl d) in record {
+      sized = s .sized;
+      judged = s .judged;
+      bad-term = λ p f. s .bad-term p (λ l. f (sym t ∙ l));
+      bad-net = λ p l f. s .bad-net p (t ∙ l) (λ k. f (sym n ∙ k));
+      done = λ p l k. s .done p (t ∙ l) (n ∙ k) ∙ ap Values (score-same z (same-refl d) (fromRows rows) (n ∙ k));
+    }

@@ -1,0 +1,3 @@
+-- Laws of terms and nets in slices.
+pub mod Pairing
+pub mod Netting

@@ -1,0 +1,3 @@
+-- Terms and nets in slices.
+pub mod Slices
+pub mod Places
