@@ -11,26 +11,29 @@ use Rattle.rules.specs.declared.Design.{Design}
 use Rattle.rules.specs.declared.Edit.{Edit}
 use Rattle.rules.specs.declared.Refusal.{Refusal}
 use Rattle.rules.specs.declared.Reply.{Reply}
+use Rattle.rules.specs.declared.Reply.the-variants.{Done}
 use Rattle.rules.specs.declared.Handed.{Handed}
 use Rattle.rules.specs.declared.Written.{Written}
 use Rattle.rules.specs.declared.Planned.{Planned}
+use Rattle.rules.specs.declared.Scored.{Scored}
 use Rattle.rules.specs.Design.{slotsOf, LawfulDesign}
 use Rattle.rules.specs.Edit.{namesPlace, changed}
 use Rattle.rules.specs.Bytes.{Took, took, refuse, designBytes, designAt}
 use Rattle.rules.specs.Check.{fromRows, verdict}
-use Rattle.rules.specs.Reply.{Answer, refusal, answer, writtenAnswer, plannedAnswer}
-use Rattle.rules.specs.Service.{Reads, Writes, Lists, Plans, Places, Edits, Checks, Enough, workOf, rowsOf, handed, zeros}
+use Rattle.rules.specs.Score.{Cost}
+use Rattle.rules.specs.Reply.{Answer, refusal, answer, writtenAnswer, plannedAnswer, scoredAnswer}
+use Rattle.rules.specs.Service.{Reads, Writes, Lists, Plans, Places, Edits, Checks, Scores, Enough, workOf, rowsOf, handed, zeros}
 use Rattle.rules.proofs.Reading.{read-lawful}
 use Rattle.rules.proofs.Floorplans.{planned, down-lawful}
-use Rattle.rules.proofs.Checking.{Judged, passes-iff, verdict-too-short, verdict-judged}
+use Rattle.rules.proofs.Checking.{Judged, passed-is-lawful, passes-iff, verdict-too-short, verdict-judged}
 use Rattle.rules.proofs.Checking as checker
 use Rattle.promises.specs.Services.{Services, Keeping}
-use Rattle.promises.specs.Demand1.{Tested, lawful, Refusing, ReadNumbered, WriteNumbered, ListNumbered, PlanNumbered, PlanLeft, PlaceNumbered, EditNumbered, CheckNumbered, Demand1}
+use Rattle.promises.specs.Demand1.{Tested, lawful, Refusing, ReadNumbered, WriteNumbered, ListNumbered, PlanNumbered, PlanLeft, PlaceNumbered, EditNumbered, CheckNumbered, Passed, ScoreNumbered, Demand1}
 use Rattle.promises.specs.Demand1 as row
 use Rattle.promises.proofs.Planning.{rows-lawful}
 use Rattle.promises.proofs.Refusals.{value-refused, OfReading, unfinished, malformed, wrong-form, breaks-limits-at, bad-token-at, extra-bytes, reading-refused}
 use Rattle.promises.proofs.Copying.{refusal-not-0}
-use Rattle.promises.proofs.Cases.{Lent, unlawful, short, enough, one-lent, two-lent, Placing, no-stairs, empty, lost, placed, placing, Editing, unlawful-design, unnamed, short-work, stranger, granted, editing}
+use Rattle.promises.proofs.Cases.{Lent, unlawful, short, enough, one-lent, two-lent, Placing, no-stairs, empty, lost, placed, placing, Editing, unlawful-design, unnamed, short-work, stranger, granted, editing, Scoring, faulty, bad-term, bad-net, scored, scoring}
 
 abbrev ReadKept : List ℕ → Handed → Type 0
 ReadKept s h = ReadNumbered s (h .design) (answer (h .reply)) × Refusing (answer (h .reply)) (h .design ≡ zeros)
@@ -141,9 +144,10 @@ edit-granted d e before after r x q = go (editing d e before)
     go (stranger l n h f) = let z = rw (x .stranger l n h f .0) at q in absurd (omega arith)
     go (granted l n h st) = (l, n, ap (λ h. h .design) (x .done l n h st .0))
 
-check-kept : (d : Design) (rows : List ℕ) (r : Reply) → Checks d rows r → Tested d (CheckNumbered d rows) (answer r)
+-- the table of a verdict, whoever gives it
+verdict-numbered : (d : Design) (rows : List ℕ) → Tested d (CheckNumbered d rows) (answer (verdict d rows))
 unfolding verdict
-check-kept d rows r x = rw (x .judged) (go (one-lent d (rowsOf d) rows))
+verdict-numbered d rows = go (one-lent d (rowsOf d) rows)
   where
     over : {v : Reply} → verdict d rows ≡ v → LawfulDesign d → rowsOf d ≤ length rows → Judged d (fromRows rows) v → CheckNumbered d rows (answer v)
     over q l h (checker.passed f k) = let (_, p) = passes-iff d l rows .0 q in row.done h p
@@ -156,6 +160,23 @@ check-kept d rows r x = rw (x .judged) (go (one-lent d (rowsOf d) rows))
     go (short l h) = rw (verdict-too-short d l rows h) (lawful l (row.short h))
     go (enough l h) = lawful l (over refl l h (verdict-judged d l rows h))
 
+check-kept : (d : Design) (rows : List ℕ) (r : Reply) → Checks d rows r → Tested d (CheckNumbered d rows) (answer r)
+check-kept d rows r x = rw (x .judged) (verdict-numbered d rows)
+
+-- a score has the checker's table before its own
+pub passed : (d : Design) (rows : List ℕ) → verdict d rows ≡ Done → Passed d rows
+passed d rows v =
+    let l = passed-is-lawful d rows v in let (h, p) = passes-iff d l rows .0 v in record { lawful = l; places = h; placement = p }
+
+pub score-kept : (d : Design) (rows : List ℕ) (c : Cost) (r : Scored) → Scores d rows c r → ScoreNumbered d rows c (scoredAnswer r)
+score-kept d rows c r x = go (scoring d rows c)
+  where
+    go : Scoring d rows c → ScoreNumbered d rows c (scoredAnswer r)
+    go (faulty e v) = rw (x .judged e v) (row.not-passed (rw v at (verdict-numbered d rows)) (refusal-not-0 e))
+    go (bad-term v f) = rw (x .bad-term v f) (row.bad-term (passed d rows v) f)
+    go (bad-net v t f) = rw (x .bad-net v t f) (row.bad-net (passed d rows v) t f)
+    go (scored v t n) = rw (x .done v t n) (row.done (passed d rows v) t n)
+
 -- Demand 1, of any services that keep their contracts
 pub demand-1 : (S : Services) → Keeping S → Demand1 S
 demand-1 S k = record {
@@ -167,6 +188,7 @@ demand-1 S k = record {
     place = λ d work rows rows' r x. place-kept d work rows rows' r (k .place d work rows rows' r x) .0;
     edit = λ d e before after r x. edit-kept d e before after r (k .edit d e before after r x) .0;
     check = λ d rows r x. check-kept d rows r (k .check d rows r x);
+    score = λ d rows c r x. score-kept d rows c r (k .score d rows c r x);
   };
   leaving = record {
     read = λ s r x. read-kept s r (k .read s r x) .1;

@@ -19,7 +19,9 @@ use Rattle.rules.specs.Slot.{Empty}
 use Rattle.rules.specs.Choice.{Chosen}
 use Rattle.rules.specs.Design.{valueTest, LawfulDesign, nodes, slotRows, slotsOf, AllStairs, rootSlot, GoesDown, widthOf, heightOf}
 use Rattle.rules.specs.Edit.{namesPlace}
-use Rattle.rules.specs.Service.{Enough, workOf, rowsOf}
+use Rattle.rules.specs.Check.{verdict}
+use Rattle.rules.specs.Score.{Cost, lawfulTerms, lawfulNets}
+use Rattle.rules.specs.Service.{Enough, workOf, rowsOf, TermsLawful, NetsLawful}
 use Rattle.rules.proofs.Test.{goesFor}
 use Rattle.rules.proofs.Searching.{know}
 use Rattle.rules.proofs.Choosing.{chooses}
@@ -91,3 +93,19 @@ editing d e before = go (one-lent d (workOf d) before) (know (namesPlace d e))
     go (short l h) (inr n) = unnamed l n
     go (enough l h) (inl n) = ⊎-elim (granted l n h) (stranger l n h) (stairs-or-not (widthOf d) (heightOf d) (slotRows d) (nodes d) (slotsOf d before))
     go (enough l h) (inr n) = unnamed l n
+
+-- score: the checker's verdict, then the terms, then the nets
+pub data Scoring (d : Design) (rows : List ℕ) (c : Cost) : Type 0 where
+  faulty : (e : Refusal) → verdict d rows ≡ Refused e → Scoring d rows c
+  bad-term : verdict d rows ≡ Done → (TermsLawful c → ⊥) → Scoring d rows c
+  bad-net : verdict d rows ≡ Done → TermsLawful c → (NetsLawful d c → ⊥) → Scoring d rows c
+  scored : verdict d rows ≡ Done → TermsLawful c → NetsLawful d c → Scoring d rows c
+
+pub scoring : (d : Design) (rows : List ℕ) (c : Cost) → Scoring d rows c
+scoring d rows c = go (verdict d rows) refl (know (lawfulTerms (c .terms) (c .termCount))) (know (lawfulNets (d .modules) (c .nets) (c .netCount)))
+  where
+    go : (r : Reply) → verdict d rows ≡ r → TermsLawful c ⊎ (TermsLawful c → ⊥) → NetsLawful d c ⊎ (NetsLawful d c → ⊥) → Scoring d rows c
+    go (Refused e) q _ _ = faulty e q
+    go Done q (inr f) _ = bad-term q f
+    go Done q (inl t) (inr f) = bad-net q t f
+    go Done q (inl t) (inl n) = scored q t n

@@ -8,7 +8,7 @@ use lib.ListN.{length, take, drop}
 use lib.Seq.{take-append-seam}
 use Rattle.rules.specs.declared.Design.{Design}
 use Rattle.rules.specs.declared.Refusal.{Refusal}
-use Rattle.rules.specs.declared.Refusal.the-variants.{Unfinished, Malformed, WrongForm, BreaksLimits, BadToken, NotOneThing, ExtraBytes, TooShort, Unreliable, NoPlacement, NoSuchEdit, OffTheChip, ShortOfNeed, CutNotKept}
+use Rattle.rules.specs.declared.Refusal.the-variants.{Unfinished, Malformed, WrongForm, BreaksLimits, BadToken, NotOneThing, ExtraBytes, TooShort, Unreliable, NoPlacement, NoSuchEdit, OffTheChip, ShortOfNeed, CutNotKept, BadTerm, BadNet}
 use Rattle.rules.specs.declared.Reply.{Reply}
 use Rattle.rules.specs.declared.Reply.the-variants.{Done, Refused}
 use Rattle.rules.specs.declared.Handed.{Handed}
@@ -37,6 +37,8 @@ refusal-not-0 NoSuchEdit q = omega arith
 refusal-not-0 (OffTheChip k) q = omega arith
 refusal-not-0 (ShortOfNeed k) q = omega arith
 refusal-not-0 (CutNotKept t) q = omega arith
+refusal-not-0 BadTerm q = omega arith
+refusal-not-0 BadNet q = omega arith
 
 pub is-done : (r : Reply) → answer r .number ≡ 0 → r ≡ Done
 is-done Done q = refl

@@ -37,4 +37,5 @@ contracts-keep = record {
   place = λ d work rows rows' r x. x;
   edit = λ d e before after r x. x;
   check = λ d rows r x. x;
+  score = λ d rows c r x. x;
 }

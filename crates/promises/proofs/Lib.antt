@@ -1,4 +1,4 @@
--- The promises: theorems about whatever the seven contracts allow.
+-- The promises: theorems about whatever the eight contracts allow.
 pub mod Refusals
 pub mod Cases
 pub mod Unique

@@ -15,16 +15,20 @@ use Rattle.rules.specs.declared.Reply.the-variants.{Done, Refused}
 use Rattle.rules.specs.declared.Handed.{Handed}
 use Rattle.rules.specs.declared.Written.{Written}
 use Rattle.rules.specs.declared.Planned.{Planned}
+use Rattle.rules.specs.declared.Scored.{Scored}
 use Rattle.rules.specs.Design.{Sized, LawfulDesign, SameDesign}
 use Rattle.rules.specs.Edit.{namesPlace, changed}
 use Rattle.rules.specs.Bytes.{designBytes}
-use Rattle.rules.specs.Service.{Writes, Lists, Plans, Places, Edits, Checks, Enough}
+use Rattle.rules.specs.Check.{fromRows}
+use Rattle.rules.specs.Score.{Cost, SameCost}
+use Rattle.rules.specs.Service.{Writes, Lists, Plans, Places, Edits, Checks, Scores, Enough}
 use Rattle.rules.proofs.Same.{same-sym, work-same, rows-same, test-same, lawful-same, bytes-same, verdict-same, names-same, changed-same, same-iff-bytes}
 use Rattle.rules.proofs.Carrying.{work-stairs, work-own, work-empty, work-chosen, work-down, edited-same}
+use Rattle.rules.proofs.Costs.{terms-same, nets-same, score-same}
 use Rattle.promises.specs.Services.{Services, Keeping}
 use Rattle.promises.specs.Same.{SameTreatment}
 use Rattle.promises.proofs.Cases.{Editing, unlawful-design, unnamed, short-work, stranger, granted, editing}
-use Rattle.promises.proofs.Unique.{writes-once, lists-once, plans-once, places-once, edits-once, checks-once}
+use Rattle.promises.proofs.Unique.{writes-once, lists-once, plans-once, places-once, edits-once, checks-once, scores-once}
 
 enough-same : {d e : Design} {work rows : List ℕ} → SameDesign d e → Enough d work rows → Enough e work rows
 enough-same z h = record {
@@ -88,6 +92,16 @@ module _ {d e : Design} (z : SameDesign d e) (sized : Sized e) where
 
   pub checks-same : (rows : List ℕ) (r : Reply) → Checks d rows r → Checks e rows r
   checks-same rows r x = record { sized = sized; judged = x .judged ∙ verdict-same z rows }
+
+  pub scores-same : {a b : Cost} → SameCost a b → (rows : List ℕ) (r : Scored) → Scores d rows a r → Scores e rows b r
+  scores-same y rows r x = record {
+    sized = sized;
+    judged = λ f v. x .judged f (verdict-same z rows ∙ v);
+    bad-term = λ v f. x .bad-term (verdict-same z rows ∙ v) (λ t. f (sym (terms-same y) ∙ t));
+    bad-net = λ v t f. x .bad-net (verdict-same z rows ∙ v) (terms-same y ∙ t) (λ n. f (sym (nets-same y z) ∙ n));
+    done = λ v t n.
+        let n' = nets-same y z ∙ n in rw (score-same y z (fromRows rows) n') at (x .done (verdict-same z rows ∙ v) (terms-same y ∙ t) n');
+  }
 
 -- what an edit with this reply hands back
 abbrev handedBack : Design → Edit → Reply → Handed
@@ -170,6 +184,9 @@ module _ {d e : Design} (z : SameDesign d e) where
   pub same-checked : (rows : List ℕ) (r r' : Reply) → Checks d rows r → Checks e rows r' → r ≡ r'
   same-checked rows r r' x y = checks-once e rows r r' (checks-same z (y .sized) rows r x) y
 
+  pub same-scored : {a b : Cost} → SameCost a b → (rows : List ℕ) (r r' : Scored) → Scores d rows a r → Scores e rows b r' → r ≡ r'
+  same-scored {b = b} w rows r r' x y = scores-once e rows b r r' (scores-same z (y .sized) w rows r x) y
+
 -- No other lawful designs are treated the same: write, given room, tells them apart. They are called the same exactly
 -- if it answers alike and leaves the same bytes.
 module _ (d e : Design) (lawful : LawfulDesign d) (lawful' : LawfulDesign e)
@@ -199,4 +216,5 @@ same-treatment S k = record {
   place = λ d e z work rows out out' r r' x y. same-placed z work rows out out' r r' (k .place d work rows out r x) (k .place e work rows out' r' y);
   edit = λ d e z c before after after' r r' x y. same-edited z c before after after' r r' (k .edit d c before after r x) (k .edit e c before after' r' y);
   check = λ d e z rows r r' x y. same-checked z rows r r' (k .check d rows r x) (k .check e rows r' y);
+  score = λ d e z a b w rows r r' x y. same-scored z w rows r r' (k .score d rows a r x) (k .score e rows b r' y);
 }

@@ -11,23 +11,34 @@ use Rattle.rules.specs.declared.Reply.{Reply}
 use Rattle.rules.specs.declared.Handed.{Handed}
 use Rattle.rules.specs.declared.Written.{Written}
 use Rattle.rules.specs.declared.Planned.{Planned}
+use Rattle.rules.specs.declared.Scored.{Scored}
 use Rattle.rules.specs.Design.{nodeAt, nodes, root, ListsOf, slotRows, slotsOf, widthOf, heightOf}
 use Rattle.rules.specs.Edit.{changed, changedNode}
 use Rattle.rules.specs.Bytes.{designBytes}
-use Rattle.rules.specs.Service.{Reads, Writes, Lists, Plans, Places, Edits, Checks, Enough, workOf, rowsOf}
+use Rattle.rules.specs.Score.{Cost}
+use Rattle.rules.specs.Service.{Reads, Writes, Lists, Plans, Places, Edits, Checks, Scores, Enough, workOf, rowsOf}
 use Rattle.rules.proofs.Standing.{node-position}
 use Rattle.rules.proofs.Nodes.{node-at, node-part, part-node}
 use Rattle.rules.proofs.Limits.{every-row, no-other-row}
 use Rattle.rules.proofs.Floorplans.{planned}
 use Rattle.rules.proofs.Changing.{edit-lawful, edit-keeps}
 use Rattle.rules.proofs.Working.{listed-once, relisted-once}
-use Rattle.promises.proofs.Cases.{Lent, unlawful, short, enough, one-lent, two-lent, Placing, no-stairs, empty, lost, placed, placing, Editing, unlawful-design, unnamed, short-work, stranger, granted, editing}
+use Rattle.promises.proofs.Cases.{Lent, unlawful, short, enough, one-lent, two-lent, Placing, no-stairs, empty, lost, placed, placing, Editing, unlawful-design, unnamed, short-work, stranger, granted, editing, Scoring, faulty, bad-term, bad-net, scored, scoring}
 
 pub reads-once : (s : List ℕ) (r r' : Handed) → Reads s r → Reads s r' → r ≡ r'
 reads-once s r r' x y = x ∙ sym y
 
 pub checks-once : (d : Design) (rows : List ℕ) (r r' : Reply) → Checks d rows r → Checks d rows r' → r ≡ r'
 checks-once d rows r r' x y = x .judged ∙ sym (y .judged)
+
+pub scores-once : (d : Design) (rows : List ℕ) (c : Cost) (r r' : Scored) → Scores d rows c r → Scores d rows c r' → r ≡ r'
+scores-once d rows c r r' x y = go (scoring d rows c)
+  where
+    go : Scoring d rows c → r ≡ r'
+    go (faulty e v) = x .judged e v ∙ sym (y .judged e v)
+    go (bad-term v f) = x .bad-term v f ∙ sym (y .bad-term v f)
+    go (bad-net v t f) = x .bad-net v t f ∙ sym (y .bad-net v t f)
+    go (scored v t n) = x .done v t n ∙ sym (y .done v t n)
 
 -- two of the same are the same
 both : {A B : Type 0} {a b c : A} {x y z : B} → (a ≡ c) × (x ≡ z) → (b ≡ c) × (y ≡ z) → (a ≡ b) × (x ≡ y)

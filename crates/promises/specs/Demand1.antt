@@ -16,6 +16,7 @@ use Rattle.rules.specs.declared.Reply.{Reply}
 use Rattle.rules.specs.declared.Handed.{Handed}
 use Rattle.rules.specs.declared.Written.{Written}
 use Rattle.rules.specs.declared.Planned.{Planned}
+use Rattle.rules.specs.declared.Scored.{Scored}
 use Rattle.rules.specs.Tree.{refused}
 use Rattle.rules.specs.Placement.{Placement}
 use Rattle.rules.specs.Slot.{PastKept}
@@ -23,8 +24,9 @@ use Rattle.rules.specs.Design.{withinLimits, standingOf, nodes, LawfulDesign, L
 use Rattle.rules.specs.Edit.{namesPlace}
 use Rattle.rules.specs.Bytes.{took, refuse, designBytes, designAt}
 use Rattle.rules.specs.Check.{fromRows, FirstOff, FirstShort, FirstNotKept}
-use Rattle.rules.specs.Reply.{Answer, plainly, answer, writtenAnswer, plannedAnswer}
-use Rattle.rules.specs.Service.{Enough, workOf, rowsOf, zeros}
+use Rattle.rules.specs.Score.{Cost, noScore, scoreOf}
+use Rattle.rules.specs.Reply.{Answer, ScoreAnswer, plainly, answer, writtenAnswer, plannedAnswer, scoredAnswer}
+use Rattle.rules.specs.Service.{Enough, workOf, rowsOf, zeros, TermsLawful, NetsLawful}
 use Rattle.promises.specs.Services.{Services}
 
 -- "A design handed over as a value is tested first by the same limits and tree rules, in file order, with 4, 5 or 6 at position 0." (01 lists
@@ -108,6 +110,26 @@ pub data CheckNumbered (d : Design) (rows : List ℕ) : Answer → Type 0 where
       → CheckNumbered d rows (plainly 14 t)
   done : rowsOf d ≤ length rows → LawfulPlacement d (fromRows rows) → CheckNumbered d rows (plainly 0 0)
 
+-- score: "Refusals (both values 0, as with no terms): first all of the checker's own, then 15 for a ninth term or a weight
+-- outside 0 to 1,000,000 or not a number, then 16 for a 33rd net or one that is empty or names a missing module." The
+-- checker's refusals go on with what they name. Rows are only read.
+abbrev pub unscored : Answer → ScoreAnswer
+unscored a = record { reply = a; values = noScore }
+
+-- the checker passes these rows
+pub record Passed (d : Design) (rows : List ℕ) : Type 0 where
+  pub lawful : LawfulDesign d
+  pub places : rowsOf d ≤ length rows
+  pub placement : LawfulPlacement d (fromRows rows)
+
+pub data ScoreNumbered (d : Design) (rows : List ℕ) (c : Cost) : ScoreAnswer → Type 0 where
+  not-passed : {a : Answer} → Tested d (CheckNumbered d rows) a → (a .number ≡ 0 → ⊥)
+      → ScoreNumbered d rows c (unscored a)
+  bad-term : Passed d rows → (TermsLawful c → ⊥) → ScoreNumbered d rows c (unscored (plainly 15 0))
+  bad-net : Passed d rows → TermsLawful c → (NetsLawful d c → ⊥) → ScoreNumbered d rows c (unscored (plainly 16 0))
+  done : Passed d rows → TermsLawful c → NetsLawful d c
+      → ScoreNumbered d rows c (record { reply = plainly 0 0; values = scoreOf d (fromRows rows) c })
+
 -- "It tests every design, list, floorplan and edit for itself. A bad one gets its numbered refusal"
 pub record Numbered (S : Services) : Type 0 where
   pub read : (s : List ℕ) (r : Handed) → S .read s r → ReadNumbered s (r .design) (answer (r .reply))
@@ -122,6 +144,8 @@ pub record Numbered (S : Services) : Type 0 where
   pub edit : (d : Design) (e : Edit) (before after : List ℕ) (r : Handed) → S .edit d e before r after
       → Tested d (EditNumbered d e before) (answer (r .reply))
   pub check : (d : Design) (rows : List ℕ) (r : Reply) → S .check d rows r → Tested d (CheckNumbered d rows) (answer r)
+  pub score : (d : Design) (rows : List ℕ) (c : Cost) (r : Scored) → S .score d rows c r
+      → ScoreNumbered d rows c (scoredAnswer r)
 
 -- "and the rules fix what then stands in each buffer it was lent"
 pub record Leaving (S : Services) : Type 0 where

@@ -1,5 +1,6 @@
 -- 01: "Places beyond W, m and 2m-1 in it are ignored, also when two designs are called the same." So two designs called the same get the same
--- treatment: the same reply and values, the same bytes and rows; from edit, designs called the same. Read is handed no design.
+-- treatment: the same reply and values, the same bytes and rows; from edit, designs called the same. Read is handed no design. Of a score's terms
+-- and nets too, places past a count are ignored.
 use mathlib.Core.Path.{_≡_}
 use mathlib.Core.List.{List}
 use Prim.Native.Nat.{ℕ}
@@ -9,7 +10,9 @@ use Rattle.rules.specs.declared.Reply.{Reply}
 use Rattle.rules.specs.declared.Handed.{Handed}
 use Rattle.rules.specs.declared.Written.{Written}
 use Rattle.rules.specs.declared.Planned.{Planned}
+use Rattle.rules.specs.declared.Scored.{Scored}
 use Rattle.rules.specs.Design.{SameDesign}
+use Rattle.rules.specs.Score.{Cost, SameCost}
 use Rattle.promises.specs.Services.{Services}
 
 pub record SameTreatment (S : Services) : Type 0 where
@@ -27,3 +30,5 @@ pub record SameTreatment (S : Services) : Type 0 where
       → (r .reply ≡ r' .reply) × SameDesign (r .design) (r' .design) × (after ≡ after')
   pub check : (d e : Design) → SameDesign d e → (rows : List ℕ) (r r' : Reply) → S .check d rows r
       → S .check e rows r' → r ≡ r'
+  pub score : (d e : Design) → SameDesign d e → (a b : Cost) → SameCost a b → (rows : List ℕ) (r r' : Scored)
+      → S .score d rows a r → S .score e rows b r' → r ≡ r'

@@ -1,4 +1,4 @@
--- The seven services, by what they answer: of what a service was handed, its reply and what then stands in each buffer that it was lent. A
+-- The eight services, by what they answer: of what a service was handed, its reply and what then stands in each buffer that it was lent. A
 -- demand is a statement about any such services, right ones and wrong ones.
 use mathlib.Core.List.{List}
 use Prim.Native.Nat.{ℕ}
@@ -8,7 +8,9 @@ use Rattle.rules.specs.declared.Reply.{Reply}
 use Rattle.rules.specs.declared.Handed.{Handed}
 use Rattle.rules.specs.declared.Written.{Written}
 use Rattle.rules.specs.declared.Planned.{Planned}
-use Rattle.rules.specs.Service.{Reads, Writes, Lists, Plans, Places, Edits, Checks}
+use Rattle.rules.specs.declared.Scored.{Scored}
+use Rattle.rules.specs.Score.{Cost}
+use Rattle.rules.specs.Service.{Reads, Writes, Lists, Plans, Places, Edits, Checks, Scores}
 
 pub record Services : Type 1 where
   -- bytes; what is handed back
@@ -25,6 +27,8 @@ pub record Services : Type 1 where
   pub edit : Design → Edit → List ℕ → Handed → List ℕ → Type 0
   -- design, rows (only read); reply
   pub check : Design → List ℕ → Reply → Type 0
+  -- design, rows (only read), terms and nets; reply
+  pub score : Design → List ℕ → Cost → Scored → Type 0
 
 -- They keep the contracts of the rules: those that every service of `cellweaver` is proved to keep.
 pub record Keeping (S : Services) : Type 0 where
@@ -38,8 +42,17 @@ pub record Keeping (S : Services) : Type 0 where
   pub edit : (d : Design) (e : Edit) (before after : List ℕ) (r : Handed) → S .edit d e before r after
       → Edits d e before r after
   pub check : (d : Design) (rows : List ℕ) (r : Reply) → S .check d rows r → Checks d rows r
+  pub score : (d : Design) (rows : List ℕ) (c : Cost) (r : Scored) → S .score d rows c r → Scores d rows c r
 
 -- the contracts themselves, as services that answer whatever they allow
 abbrev pub contracts : Services
-contracts =
-    record { read = Reads; write = Writes; list = Lists; plan = Plans; place = Places; edit = Edits; check = Checks }
+contracts = record {
+  read = Reads;
+  write = Writes;
+  list = Lists;
+  plan = Plans;
+  place = Places;
+  edit = Edits;
+  check = Checks;
+  score = Scores;
+}
