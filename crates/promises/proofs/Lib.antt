@@ -5,6 +5,7 @@ pub mod Unique
 pub mod Same
 pub mod Planning
 pub mod Answering
+pub mod Scoring
 pub mod Editing
 pub mod Copying
 pub mod Demands
