@@ -13,3 +13,4 @@ pub mod Inputs
 pub mod RefuteAnswers
 pub mod RefutePlans
 pub mod RefuteEdits
+pub mod RefuteScores
