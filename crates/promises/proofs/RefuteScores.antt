@@ -26,12 +26,12 @@ use Rattle.rules.specs.Reply.{Answer, ScoreAnswer, plainly, scoredAnswer}
 use Rattle.rules.specs.Service.{TermsLawful, NetsLawful}
 use Rattle.rules.specs.Bench.{D}
 use Rattle.rules.proofs.Searching.{absurd-so}
-use Rattle.rules.proofs.Nodes.{lawful-tree, follows-by-nodes}
+use Rattle.rules.proofs.Nodes.{lawful-iff, lawful-tree, follows-by-nodes}
 use Rattle.promises.specs.Services.{Services}
 use Rattle.promises.specs.Demand1
 use Rattle.promises.specs.Demand1.{Tested, CheckNumbered, ScoreNumbered, Passed, unscored}
 use Rattle.promises.proofs.Answering.{passed}
-use Rattle.promises.proofs.Inputs.{D-lawful, tall, tall-breaks-limits, printed, half-block, over-the-side, printed-lawful, of-lawful, gets-4}
+use Rattle.promises.proofs.Inputs.{D-lawful, tall, tall-breaks-limits, twice, twice-bad-token, printed, half-block, over-the-side, printed-lawful, of-lawful, gets-4, gets-5}
 use Rattle.promises.proofs.RefuteAnswers.{half-not-suited}
 
 -- a float by its bits, and some that are used as weights: 1, 2, 2 to the -54 and 0.037
@@ -351,3 +351,50 @@ module _ (S : Services) (demand : Demand1.Demand1 S) where
         go (Demand1.short-of-need l _) = absurd (omega arith)
         go (Demand1.cut-not-kept l _) = absurd (omega arith)
         go (Demand1.done l _) = absurd (omega arith)
+
+    pub scorer-skips-the-checker : S .score D half-block c r → scoredAnswer r ≡ refuses 13 0
+    unfolding D slotRows padded stands has joined added standing fromRows
+    scorer-skips-the-checker x =
+        let (b, e, t, o) = gets-refusal (λ p. half-not-suited (p .placement .suits 0 refl)) (demand .numbered .score D half-block c r x) in
+        e ∙ rw (go (of-lawful D-lawful t))
+      where
+        on : OnChip 5 6 (fromRows half-block 0)
+        on = record { wide = omega arith; high = omega arith; columns = omega arith; rows = omega arith }
+
+        go : {a : Answer} → CheckNumbered D half-block a → a ≡ plainly 13 0
+        go (Demand1.short l) = absurd (omega arith)
+        go (Demand1.off-the-chip {k = zero} _ f) = absurd (f .fault on)
+        go (Demand1.off-the-chip {k = suc k} _ f) = absurd (half-not-suited (f .before 0 (omega arith) .suits))
+        go (Demand1.short-of-need {k = zero} _ _) = refl
+        go (Demand1.short-of-need {k = suc k} _ f) = absurd (half-not-suited (f .before 0 (omega arith) .suits))
+        go (Demand1.cut-not-kept _ f) = absurd (half-not-suited (f .fine 0 (omega arith) .suits))
+        go (Demand1.done _ l) = absurd (half-not-suited (l .suits 0 refl))
+
+    pub scorer-loses-the-name : S .score D over-the-side c r → scoredAnswer r ≡ refuses 12 1
+    unfolding D slotRows padded stands has joined added standing fromRows
+    scorer-loses-the-name x =
+        let (b, e, t, o) = gets-refusal (λ p. let h = p .placement .onChip 1 refl .columns in omega arith) (demand .numbered .score D over-the-side c r x) in
+        e ∙ rw (go (of-lawful D-lawful t))
+      where
+        go : {a : Answer} → CheckNumbered D over-the-side a → a ≡ plainly 12 1
+        go (Demand1.short l) = absurd (omega arith)
+        go (Demand1.off-the-chip {k = zero} _ f) = absurd (f .fault (printed-lawful .onChip 0 refl))
+        go (Demand1.off-the-chip {k = suc zero} _ _) = refl
+        go (Demand1.off-the-chip {k = suc (suc k)} _ f) = let h = f .below in absurd (omega arith)
+        go (Demand1.short-of-need {k = zero} _ f) = absurd (f .fault (printed-lawful .suits 0 refl))
+        go (Demand1.short-of-need {k = suc zero} _ f) = let h = f .on-chip .columns in absurd (omega arith)
+        go (Demand1.short-of-need {k = suc (suc k)} _ f) = let h = f .below in absurd (omega arith)
+        go (Demand1.cut-not-kept _ f) = let h = f .fine 1 (omega arith) .on-chip .columns in absurd (omega arith)
+        go (Demand1.done _ l) = let h = l .onChip 1 refl .columns in absurd (omega arith)
+
+    pub scorer-takes-a-tall-block : (rows : List ℕ) → S .score tall rows c r → scoredAnswer r ≡ refuses 4 0
+    scorer-takes-a-tall-block rows x =
+        let (b, e, t, o) = gets-refusal (λ p. tall-breaks-limits (lawful-iff tall .0 (p .lawful) .0)) (demand .numbered .score tall rows c r x) in
+        e ∙ rw (gets-4 tall-breaks-limits t)
+
+    pub scorer-takes-a-module-twice : (rows : List ℕ) → S .score twice rows c r → scoredAnswer r ≡ refuses 5 0
+    scorer-takes-a-module-twice rows x =
+        let (b, e, t, o) = gets-refusal unlawful (demand .numbered .score twice rows c r x) in e ∙ rw (gets-5 twice-bad-token t)
+      where
+        unlawful : Passed twice rows → ⊥
+        unlawful p = let s = lawful-iff twice .0 (p .lawful) .1 in let q = twice-bad-token .1 in let z : _≡_ {A = ℕ} 0 1 = cc in omega arith
