@@ -1,5 +1,5 @@
--- The three demands hold of any services that keep their contracts. Demand 2's parts are put together here; demands 1 and 3 have files of their
--- own. Assumes nothing.
+-- The three demands hold of any services that keep their contracts, and so do order 1's promises of a score. Demand 2's parts are put together
+-- here; the others have files of their own. Assumes nothing.
 use mathlib.Core.Path.{sym, _∙_, ap}
 use Rattle.rules.specs.Reply.{answer}
 use Rattle.rules.proofs.Checking.{passes-iff}
@@ -7,10 +7,12 @@ use Rattle.promises.specs.Services.{Services, Keeping, contracts}
 use Rattle.promises.specs.Demand1.{Demand1}
 use Rattle.promises.specs.Demand2.{Demand2}
 use Rattle.promises.specs.Demand3.{Demand3}
+use Rattle.promises.specs.Scoring.{ScoredWell}
 use Rattle.promises.proofs.Answering.{demand-1}
 use Rattle.promises.proofs.Planning.{own-good, planned-well, placed-well}
 use Rattle.promises.proofs.Copying.{is-done, read-then-write, write-then-read}
 use Rattle.promises.proofs.Editing.{demand-3}
+use Rattle.promises.proofs.Scoring.{order-1}
 
 pub demand-2 : (S : Services) → Keeping S → Demand2 S
 demand-2 S k = record {
@@ -26,6 +28,9 @@ demand-2 S k = record {
 
 pub demands : (S : Services) → Keeping S → Demand1 S × Demand2 S × Demand3 S
 demands S k = (demand-1 S k, demand-2 S k, demand-3 S k)
+
+pub orders : (S : Services) → Keeping S → ScoredWell S
+orders S k = order-1 S k
 
 -- the contracts themselves are kept, by whatever they allow
 pub contracts-keep : Keeping contracts

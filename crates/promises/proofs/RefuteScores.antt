@@ -1,11 +1,10 @@
 -- Wrong scores that demand 1 rejects, each by an input over D: what its table leaves there is one answer, and the values in it are Python's,
 -- whose floats are binary64 too, written by their bits. Nothing of a service is known here but the demand. Assumes nothing.
-use mathlib.Core.Path.{_≡_, refl, sym, _∙_, ap}
-use mathlib.Core.Bool.{So}
+use mathlib.Core.Path.{_≡_, refl, _∙_}
 use mathlib.Core.List.{List, [], _∷_, _++_}
 use Prim.Native.Nat.{ℕ, zero, suc, _<_}
 use native.Mathlib.Omega.{arith}
-use lib.ListN.{length}
+use lib.ListN.{length, replicate}
 use lib.Ieee.{Float, binary64, ofBits, ofInt, add, mul, div, le}
 use Rattle.rules.specs.declared.Design.{Design}
 use Rattle.rules.specs.declared.Term.{Term}
@@ -18,7 +17,7 @@ use Rattle.rules.specs.Search.{all, least, count, total}
 use Rattle.rules.specs.Chip.{OnChip, column, columnOf, coversBlock, heldBetween, holds}
 use Rattle.rules.specs.Tree.{has, stands, joined, added, standing}
 use Rattle.rules.specs.Placement.{furthest}
-use Rattle.rules.specs.Design.{SuitsOf, valueTest, withinLimits, lawfulChip, inRange, lawfulNeed, slotRows}
+use Rattle.rules.specs.Design.{valueTest, withinLimits, lawfulChip, inRange, lawfulNeed, slotRows}
 use Rattle.rules.specs.Bytes.{padded}
 use Rattle.rules.specs.Check.{fromRows, isOnChip, isAtMost, isKept, judgedCuts, judgedRows, verdict}
 use Rattle.rules.specs.Score.{Cost, cost, noScore, lawfulWeight, lawfulTerms, lawfulNet, lawfulNets, areaOf, ratioOf, greatestTo, leastTo, spread, wireOf, scoreAfter, scoreOf}
@@ -29,7 +28,7 @@ use Rattle.rules.proofs.Searching.{absurd-so}
 use Rattle.rules.proofs.Nodes.{lawful-iff, lawful-tree, follows-by-nodes}
 use Rattle.promises.specs.Services.{Services}
 use Rattle.promises.specs.Demand1
-use Rattle.promises.specs.Demand1.{Tested, CheckNumbered, ScoreNumbered, Passed, unscored}
+use Rattle.promises.specs.Demand1.{Tested, CheckNumbered, ScoreNumbered, Passed}
 use Rattle.promises.proofs.Answering.{passed}
 use Rattle.promises.proofs.Inputs.{D-lawful, tall, tall-breaks-limits, twice, twice-bad-token, printed, half-block, over-the-side, printed-lawful, of-lawful, gets-4, gets-5}
 use Rattle.promises.proofs.RefuteAnswers.{half-not-suited}
@@ -232,6 +231,25 @@ module _ (S : Services) (demand : Demand1.Demand1 S) where
         scoreAfter add mul le ofInt ofBits
     scorer-forgets-a-net = right (all-pass .0) refl refl refl
 
+    -- Refused: the eighth term, the 32nd net or the 16th member, though there are places for them
+    pub scorer-refuses-8-terms : S .score D printed (asked (replicate 8 (Area one)) more [] others) r
+        → scoredAnswer r ≡ grants 0x4058000000000000 0x4028000000000000
+    unfolding D slotRows padded stands has joined added standing fromRows areaOf furthest
+        all lawfulWeight lawfulTerms lawfulNets scoreAfter add mul le ofInt ofBits
+    scorer-refuses-8-terms = right (all-pass .0) refl refl refl
+
+    pub scorer-refuses-32-nets : S .score D printed (asked (Wire one ∷ []) more (replicate 32 (net (0 ∷ 1 ∷ []) rest)) others) r
+        → scoredAnswer r ≡ grants 0x4060000000000000 0x4060000000000000
+    unfolding D fromRows greatestTo leastTo spread wireOf all inRange lawfulWeight lawfulTerms lawfulNet lawfulNets
+        scoreAfter add mul le ofInt ofBits
+    scorer-refuses-32-nets = right (all-pass .0) refl refl refl
+
+    pub scorer-refuses-16-members : S .score D printed (asked (Wire one ∷ []) more (net (1 ∷ replicate 15 0) rest ∷ []) others) r
+        → scoredAnswer r ≡ grants 0x4010000000000000 0x4010000000000000
+    unfolding D fromRows greatestTo leastTo spread wireOf all inRange lawfulWeight lawfulTerms lawfulNet lawfulNets
+        scoreAfter add mul le ofInt ofBits
+    scorer-refuses-16-members = right (all-pass .0) refl refl refl
+
     -- Weights: 0 to 1,000,000. Both ends refused; -0.0 refused, or let into the total, which is +0.0
     pub scorer-refuses-weight-1000000 : S .score D printed (asked (Area (f64 0x412e848000000000) ∷ []) more [] others) r
         → scoredAnswer r ≡ grants 0x4166e36000000000 0x4028000000000000
@@ -326,10 +344,10 @@ module _ (S : Services) (demand : Demand1.Demand1 S) where
     unfolding D all inRange lawfulWeight lawfulTerms lawfulNet lawfulNets le ofInt ofBits
     scorer-tests-the-first-net = wrong-nets (all-pass .0) refl absurd-so
 
-    pub scorer-takes-65-members : S .score D printed (asked (Wire one ∷ []) more (record { count = 65; modules = rest } ∷ []) others) r
+    pub scorer-takes-17-members : S .score D printed (asked (Wire one ∷ []) more (record { count = 17; modules = rest } ∷ []) others) r
         → scoredAnswer r ≡ refuses 16 0
     unfolding D all inRange lawfulWeight lawfulTerms lawfulNet lawfulNets le ofInt ofBits
-    scorer-takes-65-members = wrong-nets (all-pass .0) refl absurd-so
+    scorer-takes-17-members = wrong-nets (all-pass .0) refl absurd-so
 
     pub scorer-takes-a-33rd-net : S .score D printed (cost (Wire one ∷ more) 1 others 33) r
         → scoredAnswer r ≡ refuses 16 0

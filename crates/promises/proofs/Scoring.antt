@@ -15,7 +15,6 @@ use Rattle.rules.specs.declared.Design.{Design}
 use Rattle.rules.specs.declared.Net.{Net}
 use Rattle.rules.specs.declared.Term.{Term}
 use Rattle.rules.specs.declared.Term.the-variants.{Area, Ratio, Wire}
-use Rattle.rules.specs.declared.Score.{Score}
 use Rattle.rules.specs.declared.Reply.{Reply}
 use Rattle.rules.specs.declared.Reply.the-variants.{Done}
 use Rattle.rules.specs.declared.Planned.{Planned}
@@ -34,7 +33,7 @@ use Rattle.rules.proofs.Floats.{UpTo, exact-up-to}
 use Rattle.rules.proofs.Scoring.{NetLimits, nets-limits, score-finite}
 use Rattle.rules.proofs.Costs.{Names, named-twice}
 use Rattle.promises.specs.Services.{Services, Keeping}
-use Rattle.promises.specs.Demand1.{Refusing, Passed}
+use Rattle.promises.specs.Demand1.{Refusing}
 use Rattle.promises.specs.Demand2.{GoodPlan}
 use Rattle.promises.specs.Scoring.{scoreNumber, valuesOf, NotNegative, finite, NamedAlike, AreaLast, ScoredWell}
 use Rattle.promises.proofs.Cases.{Scoring, faulty, bad-term, bad-net, scored, scoring}
@@ -131,11 +130,14 @@ module _ (d : Design) (before rows after rows' : List ℕ) (r : Planned) (h : En
   planned-passes : verdict d rows' ≡ Done
   planned-passes =
       let g = good in let has = lawful-tree d (h .lawful) .modules in
-      passes-iff d (h .lawful) rows' .1 (long, record {
-        onChip = λ k t. g .on-chip k (has k .0 t);
-        suits = λ k t. g .meet k (has k .0 t);
-        follows = g .follow;
-      })
+      passes-iff d (h .lawful) rows' .1 (
+        long,
+        record {
+          onChip = λ k t. g .on-chip k (has k .0 t);
+          suits = λ k t. g .meet k (has k .0 t);
+          follows = g .follow;
+        },
+      )
 
   -- "over rows from plan an area term's amount is the area of plan's box"
   planned-area : (c : Cost) (q : Scored) → Scores d rows' c q → scoreNumber q ≡ 0 → AreaLast c
@@ -182,8 +184,8 @@ once-each d rows a b r r' z x y e f =
     g .values ∙ score-alike d (fromRows rows) a b z (g .nets) (k .nets) ∙ sym (k .values)
 
 -- order 1, of any services that keep their contracts
-pub scored-well : (S : Services) → Keeping S → ScoredWell S
-scored-well S k = record {
+pub order-1 : (S : Services) → Keeping S → ScoredWell S
+order-1 S k = record {
   exactly = λ d rows c r q x y. exactly d rows c r (k .score d rows c r x) q (k .check d rows q y);
   values-finite = λ d rows c r x. values-finite d rows c r (k .score d rows c r x);
   refused-zero = λ d rows c r x. refused-zero d rows c r (k .score d rows c r x);

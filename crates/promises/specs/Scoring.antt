@@ -8,14 +8,13 @@ use Prim.Native.Nat.{ℕ, _-_, _≤_, _<_}
 use lib.IntN.{ℤ}
 use lib.Ieee.{Float, fin}
 use Rattle.rules.specs.declared.Design.{Design}
-use Rattle.rules.specs.declared.Net.{Net}
 use Rattle.rules.specs.declared.Term.the-variants.{Area}
 use Rattle.rules.specs.declared.Score.{Score}
 use Rattle.rules.specs.declared.Reply.{Reply}
 use Rattle.rules.specs.declared.Planned.{Planned}
 use Rattle.rules.specs.declared.Scored.{Scored}
 use Rattle.rules.specs.Placement.{area}
-use Rattle.rules.specs.Score.{Cost, exact, noScore, termAt, netAt, memberAt}
+use Rattle.rules.specs.Score.{Cost, exact, noScore, termAt, netAt}
 use Rattle.rules.specs.Reply.{answer, plannedAnswer, scoredAnswer}
 use Rattle.rules.specs.Service.{Enough, TermsLawful, NetsLawful}
 use Rattle.rules.proofs.Costs.{Names}
