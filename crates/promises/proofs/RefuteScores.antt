@@ -1,34 +1,42 @@
 -- Wrong scores that demand 1 rejects, each by an input over D: what its table leaves there is one answer, and the values in it are Python's,
--- whose floats are binary64 too, written by their bits. Nothing of a service is known here but the demand. Assumes nothing.
-use mathlib.Core.Path.{_≡_, refl, _∙_}
+-- whose floats are binary64 too, written by their bits. Then what order 1's own promises reject. Nothing of a service is known here but these.
+-- Assumes nothing.
+use mathlib.Core.Path.{_≡_, refl, sym, _∙_, ap}
+use mathlib.Core.Logic.{_⊎_, ⊎-elim}
+use mathlib.Core.Bool.{Bool, true, false, true≢false, false≢true}
 use mathlib.Core.List.{List, [], _∷_, _++_}
 use Prim.Native.Nat.{ℕ, zero, suc, _<_}
 use native.Mathlib.Omega.{arith}
-use lib.ListN.{length, replicate}
-use lib.Ieee.{Float, binary64, ofBits, ofInt, add, mul, div, le}
+use lib.ListN.{length, getD, replicate}
+use lib.IntN.{ℤ}
+use lib.Ieee.{Float, nan, inf, fin, binary64, ofBits, ofInt, add, mul, div, le}
 use Rattle.rules.specs.declared.Design.{Design}
 use Rattle.rules.specs.declared.Term.{Term}
 use Rattle.rules.specs.declared.Term.the-variants.{Area, Ratio, Wire}
 use Rattle.rules.specs.declared.Net.{Net}
 use Rattle.rules.specs.declared.Score.{Score}
+use Rattle.rules.specs.declared.Reply.{Reply}
 use Rattle.rules.specs.declared.Reply.the-variants.{Done}
+use Rattle.rules.specs.declared.Planned.{Planned}
 use Rattle.rules.specs.declared.Scored.{Scored}
 use Rattle.rules.specs.Search.{all, least, count, total}
-use Rattle.rules.specs.Chip.{OnChip, column, columnOf, coversBlock, heldBetween, holds}
+use Rattle.rules.specs.Chip.{OnChip, shape, column, columnOf, coversBlock, heldBetween, holds}
 use Rattle.rules.specs.Tree.{has, stands, joined, added, standing}
 use Rattle.rules.specs.Placement.{furthest}
 use Rattle.rules.specs.Design.{valueTest, withinLimits, lawfulChip, inRange, lawfulNeed, slotRows}
 use Rattle.rules.specs.Bytes.{padded}
 use Rattle.rules.specs.Check.{fromRows, isOnChip, isAtMost, isKept, judgedCuts, judgedRows, verdict}
-use Rattle.rules.specs.Score.{Cost, cost, noScore, lawfulWeight, lawfulTerms, lawfulNet, lawfulNets, areaOf, ratioOf, greatestTo, leastTo, spread, wireOf, scoreAfter, scoreOf}
-use Rattle.rules.specs.Reply.{Answer, ScoreAnswer, plainly, scoredAnswer}
-use Rattle.rules.specs.Service.{TermsLawful, NetsLawful}
+use Rattle.rules.specs.Score.{Cost, cost, noNet, noScore, lawfulWeight, lawfulTerms, lawfulNet, lawfulNets, areaOf, ratioOf, greatestTo, leastTo, spread, wireOf, scoreAfter, scoreOf}
+use Rattle.rules.specs.Reply.{Answer, ScoreAnswer, plainly, answer, plannedAnswer, scoredAnswer}
+use Rattle.rules.specs.Service.{Enough, TermsLawful, NetsLawful}
 use Rattle.rules.specs.Bench.{D}
 use Rattle.rules.proofs.Searching.{absurd-so}
 use Rattle.rules.proofs.Nodes.{lawful-iff, lawful-tree, follows-by-nodes}
+use Rattle.rules.proofs.Costs.{Names}
 use Rattle.promises.specs.Services.{Services}
 use Rattle.promises.specs.Demand1
 use Rattle.promises.specs.Demand1.{Tested, CheckNumbered, ScoreNumbered, Passed}
+use Rattle.promises.specs.Scoring.{scoreNumber, valuesOf, NotNegative, finite, NamedAlike, AreaLast, ScoredWell}
 use Rattle.promises.proofs.Answering.{passed}
 use Rattle.promises.proofs.Inputs.{D-lawful, tall, tall-breaks-limits, twice, twice-bad-token, printed, half-block, over-the-side, printed-lawful, of-lawful, gets-4, gets-5}
 use Rattle.promises.proofs.RefuteAnswers.{half-not-suited}
@@ -70,7 +78,7 @@ zero-values : noScore ≡ values 0 0
 unfolding ofInt ofBits
 zero-values = refl
 
--- lawful rows of D besides those that 01 prints: two that round otherwise in another order of sums; both modules three rows up; module 1 alone
+-- lawful rows of D besides those that 01 prints: two that round otherwise in another order of sums; both modules three rows up; module 1 alone so
 abbrev pub uneven : List ℕ
 uneven = 0 ∷ 0 ∷ 2 ∷ 5 ∷ 2 ∷ 0 ∷ 3 ∷ 5 ∷ []
 
@@ -211,8 +219,8 @@ module _ (S : Services) (demand : Demand1.Demand1 S) where
     unfolding D fromRows ratioOf all lawfulWeight lawfulTerms lawfulNets scoreAfter add mul div le ofInt ofBits
     scorer-goes-on-summing = right (all-pass .0) refl refl refl
 
-    -- undoubled centres, 2 for 4; columns alone, or rows alone, 4 or 6 for 10; the last of two nets alone, or a module named twice counted
-    -- twice, 4 for 8
+    -- undoubled centres, 2 for 4; columns alone, or rows alone, 4 or 6 for 10; one of two nets alone, 4 for 8, or the way from
+    -- member to member, 12
     pub scorer-halves-the-centres : S .score D printed (asked (Wire one ∷ []) more (net (0 ∷ 1 ∷ []) rest ∷ []) others) r
         → scoredAnswer r ≡ grants 0x4010000000000000 0x4010000000000000
     unfolding D fromRows greatestTo leastTo spread wireOf all inRange lawfulWeight lawfulTerms lawfulNet lawfulNets
@@ -416,3 +424,74 @@ module _ (S : Services) (demand : Demand1.Demand1 S) where
       where
         unlawful : Passed twice rows → ⊥
         unlawful p = let s = lawful-iff twice .0 (p .lawful) .1 in let q = twice-bad-token .1 in let z : _≡_ {A = ℕ} 0 1 = cc in omega arith
+
+-- ---- Order 1's own promises reject what breaks each of them, over any design.
+-- what is finite and not negative is no such number
+not-infinite : {x : Float} (s : Bool) → NotNegative x → x ≡ inf s → ⊥
+not-infinite s finite e = let z : _≡_ {A = ℕ} 0 1 = cc in omega arith
+
+not-nan : {x : Float} → NotNegative x → x ≡ nan → ⊥
+not-nan finite e = let z : _≡_ {A = ℕ} 0 1 = cc in omega arith
+
+not-minus : {x : Float} {m : ℕ} {e : ℤ} → NotNegative x → x ≡ fin true m e → ⊥
+not-minus finite q = let z : true ≡ false = cc in true≢false z
+
+-- a net of two modules, and one that names them in the other order, and one of them twice
+named : (k j : ℕ) (rest more : List ℕ) → Names (net (k ∷ j ∷ []) rest) (net (j ∷ k ∷ k ∷ []) more)
+named k j rest more zero h = (1, omega arith, refl)
+named k j rest more (suc zero) h = (0, omega arith, refl)
+named k j rest more (suc (suc i)) h = absurd (omega arith)
+
+named-back : (k j : ℕ) (rest more : List ℕ) → Names (net (j ∷ k ∷ k ∷ []) more) (net (k ∷ j ∷ []) rest)
+named-back k j rest more zero h = (1, omega arith, refl)
+named-back k j rest more (suc zero) h = (0, omega arith, refl)
+named-back k j rest more (suc (suc zero)) h = (0, omega arith, refl)
+named-back k j rest more (suc (suc (suc i))) h = absurd (omega arith)
+
+module _ (S : Services) (well : ScoredWell S) where
+  module _ (d : Design) (rows : List ℕ) (c : Cost) (r : Scored) (x : S .score d rows c r) where
+    -- an infinity, what is not a number, -0.0 or less, as the total or as the last amount
+    pub scorer-gives-infinity : (s : Bool) → (valuesOf r .total ≡ inf s) ⊎ (valuesOf r .last ≡ inf s) → ⊥
+    scorer-gives-infinity s e = let (a, b) = well .values-finite d rows c r x in ⊎-elim (not-infinite s a) (not-infinite s b) e
+
+    pub scorer-gives-nan : (valuesOf r .total ≡ nan) ⊎ (valuesOf r .last ≡ nan) → ⊥
+    scorer-gives-nan e = let (a, b) = well .values-finite d rows c r x in ⊎-elim (not-nan a) (not-nan b) e
+
+    pub scorer-gives-minus-0 : (m : ℕ) (e : ℤ) → (valuesOf r .total ≡ fin true m e) ⊎ (valuesOf r .last ≡ fin true m e) → ⊥
+    scorer-gives-minus-0 m e q = let (a, b) = well .values-finite d rows c r x in ⊎-elim (not-minus a) (not-minus b) q
+
+    -- the values so far beside a refusal
+    pub scorer-keeps-the-values : (scoreNumber r ≡ 0 → ⊥) → valuesOf r .last ≡ f64 0x4028000000000000 → ⊥
+    unfolding le ofInt ofBits
+    scorer-keeps-the-values o e = false≢true (ap (λ y. le y (f64 0)) (sym e ∙ ap (λ s. s .last) (well .refused-zero d rows c r x o)))
+
+    -- 0 where the checker refuses, and a refusal where nothing is wrong
+    pub scorer-asks-another-checker : (q : Reply) → S .check d rows q → (answer q .number ≡ 0 → ⊥) → scoreNumber r ≡ 0 → ⊥
+    scorer-asks-another-checker q y o e = o (well .exactly d rows c r q x y .0 e .0)
+
+    pub scorer-refuses-all : (q : Reply) → S .check d rows q → answer q .number ≡ 0 → TermsLawful c → NetsLawful d c → scoreNumber r ≡ 0
+    scorer-refuses-all q y e t n = well .exactly d rows c r q x y .1 (e, t, n)
+
+  -- rows from plan refused by what the checker says; and another area than that of plan's box, which is 4 by 3 for D
+  module _ (d : Design) (before rows after rows' : List ℕ) (r : Planned) (c : Cost) (q : Scored) (h : Enough d before rows)
+      (x : S .plan d before rows r after rows') (e : plannedAnswer r .number ≡ 0) (y : S .score d rows' c q) where
+    pub scorer-refuses-a-plan : scoreNumber q ≡ 13 → ⊥
+    scorer-refuses-a-plan z =
+        ⊎-elim (λ u. omega arith) (λ u. ⊎-elim (λ v. omega arith) (λ v. omega arith) u) (well .planned d before rows after rows' r c q h x e y)
+
+    pub scorer-draws-another-box : plannedAnswer r .box ≡ shape 4 3 → scoreNumber q ≡ 0 → AreaLast c → valuesOf q .last ≡ f64 0x4028000000000000
+    unfolding ofInt ofBits
+    scorer-draws-another-box b z a = well .planned-area d before rows after rows' r c q h x e y z a ∙ rw b
+
+  -- a module named twice that counts twice
+  pub scorer-counts-a-module-twice : (d : Design) (rows : List ℕ) (terms : List Term) (n k j : ℕ) (rest more : List ℕ) (r r' : Scored)
+      → S .score d rows (cost terms n (net (k ∷ j ∷ []) rest ∷ []) 1) r → S .score d rows (cost terms n (net (j ∷ k ∷ k ∷ []) more ∷ []) 1) r'
+      → scoreNumber r ≡ 0 → scoreNumber r' ≡ 0 → valuesOf r ≡ valuesOf r'
+  scorer-counts-a-module-twice d rows terms n k j rest more r r' x y = well .once-each d rows _ _ r r' alike x y
+    where
+      both : (i : ℕ) → i < 1 → let a = getD (net (k ∷ j ∷ []) rest ∷ []) i noNet in let b = getD (net (j ∷ k ∷ k ∷ []) more ∷ []) i noNet in Names a b × Names b a
+      both zero h = (named k j rest more, named-back k j rest more)
+      both (suc i) h = absurd (omega arith)
+
+      alike : NamedAlike (cost terms n (net (k ∷ j ∷ []) rest ∷ []) 1) (cost terms n (net (j ∷ k ∷ k ∷ []) more ∷ []) 1)
+      alike = record { termCount = refl; terms = λ i h. refl; netCount = refl; nets = both }
