@@ -163,11 +163,12 @@ verdict-numbered d rows = go (one-lent d (rowsOf d) rows)
 check-kept : (d : Design) (rows : List ℕ) (r : Reply) → Checks d rows r → Tested d (CheckNumbered d rows) (answer r)
 check-kept d rows r x = rw (x .judged) (verdict-numbered d rows)
 
--- a score has the checker's table before its own
+-- what passes is a lawful placement of a lawful design
 pub passed : (d : Design) (rows : List ℕ) → verdict d rows ≡ Done → Passed d rows
 passed d rows v =
     let l = passed-is-lawful d rows v in let (h, p) = passes-iff d l rows .0 v in record { lawful = l; places = h; placement = p }
 
+-- a score has the checker's refusals before its own
 pub score-kept : (d : Design) (rows : List ℕ) (c : Cost) (r : Scored) → Scores d rows c r → ScoreNumbered d rows c (scoredAnswer r)
 score-kept d rows c r x = go (scoring d rows c)
   where

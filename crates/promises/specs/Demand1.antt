@@ -1,7 +1,7 @@
 -- Demand 1: "The planner ends on all input and stays inside its memory. It tests every design, list, floorplan and edit for itself. A bad one
 -- gets its numbered refusal, and the rules fix what then stands in each buffer it was lent." The first sentence is of the code and not of its
 -- answers: the gate proves it of every function (docs/PROMISES.md). The others are 01's table of numbered replies: when each number is given,
--- with what beside it, and what it leaves.
+-- with what beside it, and what it leaves. Score's is order 1's (02).
 use mathlib.Core.Path.{_≡_}
 use mathlib.Core.Logic.{_⊎_}
 use mathlib.Core.Bool.{So}

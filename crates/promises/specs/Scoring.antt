@@ -28,11 +28,12 @@ scoreNumber r = scoredAnswer r .reply .number
 abbrev pub valuesOf : Scored → Score
 valuesOf r = scoredAnswer r .values
 
--- "finite and not negative": m times 2 to the e with the sign plus, so it is not -0.0 either
+-- finite and not negative: m times 2 to the e with the sign plus, so it is not -0.0 either
 pub data NotNegative : Float → Type 0 where
   finite : {m : ℕ} {e : ℤ} → NotNegative (fin false m e)
 
--- two costs with the same terms, whose nets name the same modules, in any order and as often as they like
+-- two costs with the same terms, whose nets name the same modules, in any order and as often as they like (`Names a b`:
+-- every member of a is a member of b)
 pub record NamedAlike (a b : Cost) : Type 0 where
   pub termCount : a .termCount ≡ b .termCount
   pub terms : (i : ℕ) → i < a .termCount → termAt (a .terms) i ≡ termAt (b .terms) i
@@ -63,6 +64,6 @@ pub record ScoredWell (S : Services) : Type 0 where
   pub planned-area : (d : Design) (before rows after rows' : List ℕ) (r : Planned) (c : Cost) (q : Scored)
       → Enough d before rows → S .plan d before rows r after rows' → plannedAnswer r .number ≡ 0 → S .score d rows' c q
       → scoreNumber q ≡ 0 → AreaLast c → valuesOf q .last ≡ exact (area (plannedAnswer r .box))
-  -- a module named twice in a net counts once
+  -- a module named twice in a net counts once: the same values, however often and in whatever order nets name theirs
   pub once-each : (d : Design) (rows : List ℕ) (a b : Cost) (r r' : Scored) → NamedAlike a b → S .score d rows a r
       → S .score d rows b r' → scoreNumber r ≡ 0 → scoreNumber r' ≡ 0 → valuesOf r ≡ valuesOf r'
