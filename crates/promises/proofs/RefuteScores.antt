@@ -26,13 +26,12 @@ use Rattle.rules.specs.Placement.{furthest}
 use Rattle.rules.specs.Design.{valueTest, withinLimits, lawfulChip, inRange, lawfulNeed, slotRows}
 use Rattle.rules.specs.Bytes.{padded}
 use Rattle.rules.specs.Check.{fromRows, isOnChip, isAtMost, isKept, judgedCuts, judgedRows, verdict}
-use Rattle.rules.specs.Score.{Cost, cost, noNet, noScore, lawfulWeight, lawfulTerms, lawfulNet, lawfulNets, areaOf, ratioOf, greatestTo, leastTo, spread, wireOf, scoreAfter, scoreOf}
+use Rattle.rules.specs.Score.{Names, Cost, cost, noNet, noScore, lawfulWeight, lawfulTerms, lawfulNet, lawfulNets, areaOf, ratioOf, greatestTo, leastTo, spread, wireOf, scoreAfter, scoreOf}
 use Rattle.rules.specs.Reply.{Answer, ScoreAnswer, plainly, answer, plannedAnswer, scoredAnswer}
 use Rattle.rules.specs.Service.{Enough, TermsLawful, NetsLawful}
 use Rattle.rules.specs.Bench.{D}
 use Rattle.rules.proofs.Searching.{absurd-so}
 use Rattle.rules.proofs.Nodes.{lawful-iff, lawful-tree, follows-by-nodes}
-use Rattle.rules.proofs.Costs.{Names}
 use Rattle.promises.specs.Services.{Services}
 use Rattle.promises.specs.Demand1
 use Rattle.promises.specs.Demand1.{Tested, CheckNumbered, ScoreNumbered, Passed}

@@ -21,7 +21,7 @@ use Rattle.rules.specs.declared.Planned.{Planned}
 use Rattle.rules.specs.declared.Scored.{Scored}
 use Rattle.rules.specs.Placement.{Placement, area}
 use Rattle.rules.specs.Design.{slotsOf}
-use Rattle.rules.specs.Score.{Cost, exact, noScore, termAt, netAt, areaOf, wireOf, amountOf, scoreAfter, scoreOf}
+use Rattle.rules.specs.Score.{Names, Cost, exact, noScore, termAt, netAt, areaOf, wireOf, amountOf, scoreAfter, scoreOf}
 use Rattle.rules.specs.Check.{fromRows, verdict}
 use Rattle.rules.specs.Reply.{answer, plannedAnswer, scoredAnswer}
 use Rattle.rules.specs.Service.{Plans, Checks, Scores, Enough, rowsOf, TermsLawful, NetsLawful}
@@ -31,7 +31,7 @@ use Rattle.rules.proofs.RowsOut.{length-rows}
 use Rattle.rules.proofs.Checking.{passes-iff}
 use Rattle.rules.proofs.Floats.{UpTo, exact-up-to}
 use Rattle.rules.proofs.Scoring.{NetLimits, nets-limits, score-finite}
-use Rattle.rules.proofs.Costs.{Names, named-twice}
+use Rattle.rules.proofs.Costs.{named-twice}
 use Rattle.promises.specs.Services.{Services, Keeping}
 use Rattle.promises.specs.Demand1.{Refusing}
 use Rattle.promises.specs.Demand2.{GoodPlan}

@@ -14,10 +14,9 @@ use Rattle.rules.specs.declared.Reply.{Reply}
 use Rattle.rules.specs.declared.Planned.{Planned}
 use Rattle.rules.specs.declared.Scored.{Scored}
 use Rattle.rules.specs.Placement.{area}
-use Rattle.rules.specs.Score.{Cost, exact, noScore, termAt, netAt}
+use Rattle.rules.specs.Score.{Names, Cost, exact, noScore, termAt, netAt}
 use Rattle.rules.specs.Reply.{answer, plannedAnswer, scoredAnswer}
 use Rattle.rules.specs.Service.{Enough, TermsLawful, NetsLawful}
-use Rattle.rules.proofs.Costs.{Names}
 use Rattle.promises.specs.Services.{Services}
 use Rattle.promises.specs.Demand1.{Refusing}
 

@@ -19,15 +19,11 @@ use Rattle.rules.specs.Placement.{Placement}
 use Rattle.rules.specs.Design.{SameDesign}
 use Rattle.rules.specs.Check.{fromRows}
 use Rattle.rules.specs.Service.{Scores}
-use Rattle.rules.specs.Score.{Cost, termAt, netAt, memberAt, weightOf, lawfulWeight, lawfulTerms, lawfulNet, lawfulNets, areaOf, greatestTo, leastTo, centresOf, spread, halfPerimeter, wireOf, amountOf, scoreAfter, scoreOf, SameNet, SameCost}
+use Rattle.rules.specs.Score.{Names, Cost, termAt, netAt, memberAt, weightOf, lawfulWeight, lawfulTerms, lawfulNet, lawfulNets, areaOf, greatestTo, leastTo, centresOf, spread, halfPerimeter, wireOf, amountOf, scoreAfter, scoreOf, SameNet, SameCost}
 use Rattle.rules.proofs.Below.{all-below}
 use Rattle.rules.proofs.Same.{same-refl, root-same}
 use Rattle.rules.proofs.Greatest.{greatest-most, least-most, greatest-in, least-in}
 use Rattle.rules.proofs.Scoring.{NetLimits, nets-limits}
-
--- every member of a is a member of b
-abbrev pub Names : Net → Net → Type 0
-Names a b = (i : ℕ) → i < a .count → (j : ℕ) × (j < b .count) × (memberAt a i ≡ memberAt b j)
 
 module _ (x : Direction) (p : Placement) (a b : Net) (some : 1 ≤ a .count) (names : Names a b) where
   greatest-names : greatestTo (a .count - 1) (centresOf x p a) ≤ greatestTo (b .count - 1) (centresOf x p b)

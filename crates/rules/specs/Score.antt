@@ -128,6 +128,10 @@ unfoldable pub wireOf : Placement → List Net → ℕ → ℕ
 wireOf p nets zero = 0
 wireOf p nets (suc n) = wireOf p nets n + halfPerimeter p (netAt nets n)
 
+-- A module that a net names twice counts once: what counts is which modules it names. Net b names every module that net a does:
+abbrev pub Names : Net → Net → Type 0
+Names a b = (i : ℕ) → i < a .count → (j : ℕ) × (j < b .count) × (memberAt a i ≡ memberAt b j)
+
 -- Rule 31: a term's amount, without its weight. "Area and wire are whole numbers and exact."
 abbrev pub amountOf : Design → Placement → Cost → Term → Float
 amountOf d p c (Area w) = exact (areaOf d p)
@@ -144,7 +148,8 @@ withTerm s amount weight = record { total = plus (s .total) (times amount weight
 
 unfoldable pub scoreAfter : Design → Placement → Cost → ℕ → Score
 scoreAfter d p c zero = noScore
-scoreAfter d p c (suc n) = withTerm (scoreAfter d p c n) (amountOf d p c (termAt (c .terms) n)) (weightOf (termAt (c .terms) n))
+scoreAfter d p c (suc n) =
+    let t = termAt (c .terms) n in withTerm (scoreAfter d p c n) (amountOf d p c t) (weightOf t)
 
 abbrev pub scoreOf : Design → Placement → Cost → Score
 scoreOf d p c = scoreAfter d p c (c .termCount)
