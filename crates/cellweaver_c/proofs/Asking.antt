@@ -3,15 +3,18 @@ use mathlib.Core.Path.{_≡_, refl, ap}
 use mathlib.Core.List.{List}
 use Prim.Native.Nat.{ℕ}
 use native.Mathlib.Omega.{arith}
+use lib.Ieee.{binary64, ofBits}
 use Rattle.rules.specs.declared.Design.{Design}
 use Rattle.rules.specs.declared.Refusal.{Refusal}
 use Rattle.rules.specs.declared.Refusal.the-variants.{Unfinished, Malformed, WrongForm, BreaksLimits, BadToken, NotOneThing, ExtraBytes, TooShort, Unreliable, NoPlacement, NoSuchEdit, OffTheChip, ShortOfNeed, CutNotKept, BadTerm, BadNet}
 use Rattle.rules.specs.declared.Reply.the-variants.{Done, Refused}
 use Rattle.rules.specs.declared.Handed.{Handed}
+use Rattle.rules.specs.declared.Scored.the-variants as scored
 use Rattle.rules.specs.Design.{LawfulDesign}
 use Rattle.rules.specs.Bytes.{took, refuse}
-use Rattle.rules.specs.Reply.{Answer, plainly, refusal, answer}
+use Rattle.rules.specs.Reply.{Answer, ScoreAnswer, plainly, refusal, answer, scoredAnswer}
 use Rattle.rules.specs.Service.{Reads, handed}
+use Rattle.rules.proofs.Floats.{zero-is}
 use Rattle.rules.proofs.Reading.{read-lawful}
 use Rattle.promises.proofs.Copying.{done-took}
 use Rattle.cellweaver_c.specs.Asked.{Asked}
@@ -37,6 +40,11 @@ refused-plainly BadNet = refl
 
 pub said-refused : (e : Refusal) {n v : ℕ} → (n ≡ refusal e .number) × (v ≡ refusal e .value) → plainly n v ≡ refusal e
 said-refused e s = rw (s .0, s .1) (refused-plainly e)
+
+-- a refused score has zeros, which the code writes out
+pub unscored-answer : {e : Refusal} {a : Answer} → a ≡ refusal e
+    → _≡_ {A = ScoreAnswer} (record { reply = a; values = record { total = ofBits binary64 0; last = ofBits binary64 0 } }) (scoredAnswer (scored.Refused e))
+unscored-answer q = rw (q, zero-is)
 
 -- what is read is lawful
 pub reads-lawful : (bytes : List ℕ) {h : Handed} → Reads bytes h → h .reply ≡ Done → LawfulDesign (h .design)

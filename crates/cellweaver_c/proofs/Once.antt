@@ -16,13 +16,14 @@ use Rattle.rules.specs.declared.Reply.the-variants.{Done, Refused}
 use Rattle.rules.specs.declared.Handed.{Handed}
 use Rattle.rules.specs.Edit.{namesPlace}
 use Rattle.rules.specs.Bytes.{Took, took, refuse, designAt}
-use Rattle.rules.specs.Reply.{Answer, refusal, answer, writtenAnswer, plannedAnswer}
+use Rattle.rules.specs.Score.{Cost}
+use Rattle.rules.specs.Reply.{Answer, ScoreAnswer, refusal, answer, writtenAnswer, plannedAnswer, scoredAnswer}
 use Rattle.rules.proofs.Searching.{know}
 use Rattle.lending.specs.Lent.{lending}
-use Rattle.promises.proofs.Unique.{reads-once, writes-once, lists-once, plans-once, places-once, edits-once, checks-once}
+use Rattle.promises.proofs.Unique.{reads-once, writes-once, lists-once, plans-once, places-once, edits-once, checks-once, scores-once}
 use Rattle.writing.specs.Parts.{designSize}
 use Rattle.cellweaver_c.specs.Asked.{Asked, Sizes, AskedRead, AskedSizes, AskedWrite, AskedList, AskedPlan}
-use Rattle.cellweaver_c.specs.Asked.{AskedPlace, AskedCheck, AskedEdit, PutsBack, EditsInto}
+use Rattle.cellweaver_c.specs.Asked.{AskedPlace, AskedCheck, AskedScore, AskedEdit, PutsBack, EditsInto}
 
 -- two of the same are the same
 both : {A B : Type 0} {a b c : A} {x y z : B} → (a ≡ c) × (x ≡ z) → (b ≡ c) × (y ≡ z) → (a ≡ b) × (x ≡ y)
@@ -107,3 +108,8 @@ module _ (bytes : List ℕ) where
     pub check-once : (rows : List ℕ) → AskedCheck bytes rows a → AskedCheck bytes rows a' → a ≡ a'
     check-once rows = once (λ _ p q. p .0 ∙ sym (q .0)) λ d x y.
         x .said ∙ ap answer (checks-once d rows (x .r) (y .r) (x .served) (y .served)) ∙ sym (y .said)
+
+  pub score-once : (rows : List ℕ) (c : Cost) (a a' : ScoreAnswer) → AskedScore bytes rows c a → AskedScore bytes rows c a' → a ≡ a'
+  score-once rows c a a' = once
+      (λ _ p q i. record { reply = (p .0 ∙ sym (q .0)) i; values = (p .1 ∙ sym (q .1)) i }) λ d x y.
+      x .2 ∙ ap scoredAnswer (scores-once d rows c (x .0) (y .0) (x .1) (y .1)) ∙ sym (y .2)

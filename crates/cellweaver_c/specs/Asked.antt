@@ -6,6 +6,7 @@ use mathlib.Core.Bool.{So}
 use mathlib.Core.List.{List, _++_}
 use Prim.Native.Nat.{ℕ, _≤_, _<_}
 use lib.ListN.{length, drop}
+use lib.Ieee.{Float}
 use Rattle.rules.specs.declared.Design.{Design}
 use Rattle.rules.specs.declared.Edit.{Edit}
 use Rattle.rules.specs.declared.Edit.the-variants.{Change}
@@ -16,13 +17,16 @@ use Rattle.rules.specs.declared.Reply.the-variants.{Done, Refused}
 use Rattle.rules.specs.declared.Handed.{Handed}
 use Rattle.rules.specs.declared.Written.{Written}
 use Rattle.rules.specs.declared.Planned.{Planned}
+use Rattle.rules.specs.declared.Scored.{Scored}
 use Rattle.rules.specs.Chip.{shape}
 use Rattle.rules.specs.Edit.{namesPlace}
 use Rattle.rules.specs.Bytes.{took, refuse, designBytes, designAt}
-use Rattle.rules.specs.Reply.{Answer, plainly, refusal, answer, writtenAnswer, plannedAnswer}
-use Rattle.rules.specs.Service.{workOf, rowsOf, Reads, Writes, Lists, Plans, Places, Edits, Checks}
+use Rattle.rules.specs.Score.{Cost, noScore}
+use Rattle.rules.specs.Reply.{Answer, ScoreAnswer, plainly, refusal, answer, writtenAnswer, plannedAnswer, scoredAnswer}
+use Rattle.rules.specs.Service.{workOf, rowsOf, Reads, Writes, Lists, Plans, Places, Edits, Checks, Scores}
 use Rattle.rules.specs.Design.{widthOf, heightOf}
-use Rattle.lending.specs.Lent.{Lent, Stands, Place, put}
+use Rattle.lending.specs.Lent.{Lent, Stands, Place, given, put}
+use Rattle.costs.specs.Slices.{costIn}
 use Rattle.writing.specs.Parts.{designSize}
 
 -- the number returned, with the value, and with the box
@@ -93,6 +97,17 @@ AskedPlace bytes work rows reply =
 -- check: rows are only lent to be read
 abbrev pub AskedCheck : List ℕ → List ℕ → Answer → Type 0
 AskedCheck bytes rows reply = Asked bytes reply (Unit {0}) (λ d. Says {R = Reply} answer (Checks d rows) reply)
+
+-- score: rows, terms and nets are only lent to be read; both values are put into places, zeros with a refusal
+abbrev pub marked : ℕ → Place ℕ → Place Float → Place Float → ScoreAnswer
+marked n value total last = record { reply = said n value; values = record { total = put total; last = put last } }
+
+abbrev pub asked : Place (List ℕ) → Place (List Float) → Place (List ℕ) → Cost
+asked kinds weights nets = costIn (given kinds) (given weights) (given nets)
+
+abbrev pub AskedScore : List ℕ → List ℕ → Cost → ScoreAnswer → Type 0
+AskedScore bytes rows c a =
+    Asked bytes (a .reply) (a .values ≡ noScore) (λ d. (r : Scored) × Scores d rows c r × (a ≡ scoredAnswer r))
 
 -- edit: the bytes of the design that is handed back go to `out`, and their count is the value. That it can hold the longest design is
 -- asked where work's length is, after 11.

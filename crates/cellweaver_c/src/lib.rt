@@ -8,6 +8,7 @@ use cellweaver::plan;
 use cellweaver::read;
 use cellweaver::work_needed;
 use cellweaver::write;
+use costs::score_slices;
 use replies::number_of;
 use rules::Design;
 use rules::Edit;
@@ -15,16 +16,17 @@ use rules::Need;
 use rules::Planned;
 use rules::Refusal;
 use rules::Reply;
+use rules::Scored;
 use rules::Written;
 use writing::design_size;
 ghost use mathlib.Core.Path.{_≡_};
 ghost use Rattle.rules.specs.declared.Edit.the-variants.{Turn};
 ghost use Rattle.rules.specs.Design.{LawfulDesign};
-ghost use Rattle.rules.specs.Reply.{refusal, answer, writtenAnswer, plannedAnswer};
+ghost use Rattle.rules.specs.Reply.{refusal, answer, writtenAnswer, plannedAnswer, scoredAnswer};
 ghost use Rattle.lending.specs.Lent.{given, lent};
-ghost use Rattle.cellweaver_c.specs.Asked.{said, boxed, sizes, sizesOf, newNeed};
+ghost use Rattle.cellweaver_c.specs.Asked.{said, boxed, marked, sizes, sizesOf, asked, newNeed};
 ghost use Rattle.cellweaver_c.specs.Asked.{AskedRead, AskedSizes, AskedWrite, AskedList, AskedPlan, AskedPlace};
-ghost use Rattle.cellweaver_c.specs.Asked.{AskedCheck, AskedEdit, EditsInto};
+ghost use Rattle.cellweaver_c.specs.Asked.{AskedCheck, AskedScore, AskedEdit, EditsInto};
 
 // A refusal's number, and its value.
 fn say_refused(e: Refusal, value: &mut usize) -> usize
@@ -73,6 +75,25 @@ fn say_planned(planned: Planned, width: &mut usize, height: &mut usize, value: &
         Planned::Refused(e) => {
             *width = 0;
             *height = 0;
+            say_refused(e, value)
+        }
+    }
+}
+
+// The number of what score answers, both values and the value.
+fn say_scored(scored: Scored, total: &mut f64, last: &mut f64, value: &mut usize) -> usize
+    ensures { λ r. ⌜ marked r value total last ≡ scoredAnswer scored ⌝ }
+{
+    match scored {
+        Scored::Values(s) => {
+            *total = s.total;
+            *last = s.last;
+            *value = 0;
+            0
+        }
+        Scored::Refused(e) => {
+            *total = 0.0;
+            *last = 0.0;
             say_refused(e, value)
         }
     }
@@ -257,6 +278,29 @@ pub extern "C" fn cellweaver_check(bytes: &[u8], rows: &[u8], value: &mut usize)
         return say_refused(e, value);
     }
     say(check(handed.design, rows), value)
+}
+
+// Scores a floorplan that the checker passes, by terms (kinds and weights) and nets (n k1..kn, one after another).
+#[no_mangle]
+pub extern "C" fn cellweaver_score(
+    bytes: &[u8],
+    rows: &[u8],
+    kinds: &[u8],
+    weights: &[f64],
+    nets: &[u8],
+    total: &mut f64,
+    last: &mut f64,
+    value: &mut usize,
+) -> usize
+    ensures { λ r. ⌜ AskedScore (given bytes) (given rows) (asked kinds weights nets) (marked r value total last) ⌝ }
+{
+    let handed = read(bytes);
+    let reply = handed.reply;
+    if let Reply::Refused(e) = reply {
+        return say_scored(Scored::Refused(e), total, last, value);
+    }
+    let scored = score_slices(handed.design, rows, kinds, weights, nets);
+    say_scored(scored, total, last, value)
 }
 
 // Changes one need.

@@ -22,11 +22,11 @@ Stands x = x .left ≡ x .came
 abbrev pub Place : Type 0 → Type 0
 Place A = Both (RefT A) (RefT A)
 
-abbrev pub given : Place (List ℕ) → List ℕ
+abbrev pub given : {A : Type 0} → Place (List A) → List A
 given x = now (x .entry)
 
 abbrev pub lent : Place (List ℕ) → Lent
 lent x = lending (now (x .entry)) (now (x .exit))
 
-abbrev pub put : Place ℕ → ℕ
+abbrev pub put : {A : Type 0} → Place A → A
 put x = now (x .exit)

@@ -7,7 +7,7 @@ use Prim.Native.Nat.{ℕ, suc, _+_, _-_, _*_, _^_, _≤_, _<_, zero-le}
 use native.Mathlib.Omega.{arith}
 use native.Mathlib.Nat.{le-trans, le-of-eq, eq-zero-or-pos, mul-one, zero-mul, mul-comm, mul-assoc, mul-pos, mul-le-mul, mul-le-mul-right, mul-mul-mul-comm, add-mul}
 use lib.Dec.{T, ltb, eqb, ltb→lt, eqb→eq, lit≤}
-use lib.Ieee.{Float, nan, inf, fin, Format, binary64, prec, emax, low, up, down, odd, units, round, sum, add, mul, div, le, ofInt}
+use lib.Ieee.{Float, nan, inf, fin, Format, binary64, prec, emax, low, up, down, odd, units, round, sum, add, mul, div, le, ofInt, ofBits}
 use lib.Ieee.Fits.{up-pos, down-pos, and-l, and-r, round-is}
 use lib.Ieee.Exact.{HasValue, odd-sign}
 use lib.Ieee.Back.{round-whole}
@@ -120,6 +120,11 @@ round-zero n s a c C e =
 pub exact-value : (n : ℕ) → n ≤ 2 ^ 53 → HasValue (exact n) false n 1
 unfolding ofInt
 exact-value n h = round-whole binary64 false n h
+
+-- a literal 0.0 is the number 0
+pub zero-is : ofBits binary64 0 ≡ exact 0
+unfolding ofBits ofInt
+zero-is = refl
 
 value-up-to : (n : ℕ) (x : Float) → HasValue x false n 1 → UpTo n x
 value-up-to n nan v = absurd v

@@ -4,10 +4,7 @@ use mathlib.Core.Path.{_≡_, refl}
 use mathlib.Core.Bool.{true, false}
 use lib.Ieee.{Float, binary64, ofBits, ofInt, le}
 use Rattle.rules.specs.Score.{exact, mostWeight, lawfulWeight}
-
-pub zero-is : ofBits binary64 0 ≡ exact 0
-unfolding ofBits ofInt
-zero-is = refl
+use Rattle.rules.proofs.Floats.{zero-is}
 
 most-weight-is : ofBits binary64 4696837146684686336 ≡ exact mostWeight
 unfolding ofBits ofInt

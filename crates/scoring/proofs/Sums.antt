@@ -14,7 +14,7 @@ use Rattle.rules.specs.Placement.{Placement}
 use Rattle.rules.specs.Score.{exact, ratioMore, ratioOf, halfPerimeter, wireOf, netAt, Cost, termAt, weightOf, amountOf, withTerm, scoreAfter, scoreOf}
 use Rattle.scoring.specs.declared.amounts.Amounts.{Amounts}
 use Rattle.scoring.specs.Amounts.{amountsOf, afterTerm, afterTerms}
-use Rattle.scoring.proofs.Literals.{zero-is}
+use Rattle.rules.proofs.Floats.{zero-is}
 
 pub no-ratio : (p : Placement) → ofBits binary64 0 ≡ ratioOf 0 p
 unfolding ratioOf
