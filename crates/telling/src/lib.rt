@@ -1,7 +1,9 @@
 // Answers as text in lent bytes. Each function puts its part at `at` and gives the position after it; what has no room is
 // left out, and there is room for every answer.
+mod bits;
 mod hash;
 
+pub use bits::put_bits;
 pub use hash::put_hash;
 ghost use Prim.Native.Nat.{_≤_};
 ghost use lib.ListN.{length};

@@ -1,7 +1,8 @@
-// A line's words, which stand between its spaces, and what words say: numbers, bytes, and bytes to lend.
+// A line's words, which stand between its spaces, and what words say: numbers, weights, bytes, and bytes to lend.
 mod bytes;
 mod lending;
 mod numbers;
+mod weights;
 mod why;
 
 pub use bytes::bytes_in;
@@ -12,6 +13,8 @@ pub use lending::poke;
 pub use numbers::Number;
 pub use numbers::number_in;
 pub use numbers::numbers_in;
+pub use weights::Weight;
+pub use weights::weight_in;
 pub use why::Why;
 pub use why::first_wrong;
 pub use why::is_fine;
