@@ -1,6 +1,7 @@
-// Designs and edits as words: taken from a line, and a design put into lent bytes.
+// Designs, edits and scores' terms and nets as words: taken from a line, and a design put into lent bytes.
 mod edits;
 mod said;
+mod scores;
 mod told;
 
 pub use edits::Asked;
@@ -15,6 +16,9 @@ use rules::Need;
 use rules::Rows;
 pub use said::Said;
 pub use said::design_in;
+pub use scores::NET_PLACES;
+pub use scores::TERM_PLACES;
+pub use scores::score_in;
 pub use told::put_design;
 pub use told::token_count;
 
