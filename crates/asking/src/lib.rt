@@ -2,6 +2,7 @@
 mod answers;
 mod looking;
 mod names;
+mod scoring;
 mod services;
 mod writing;
 

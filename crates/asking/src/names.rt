@@ -13,11 +13,15 @@ pub enum Service {
     Edit,
     Check,
     Slot,
+    Score,
     Unknown,
 }
 
-// The service that a line asks.
+// The service that a line asks. A score may have any number of words, so its name alone tells it.
 pub fn service_in(line: &[u8]) -> Service {
+    if is_among(b"1score", line) {
+        return Service::Score;
+    }
     match request_among(
         b"2read 3write 1list 1plan 1place 3edit 6edit 1check 4slot",
         line,

@@ -11,6 +11,7 @@ use crate::looking::look;
 use crate::names::Service;
 use crate::names::service_in;
 use crate::names::why_unknown;
+use crate::scoring::score;
 use crate::writing::write;
 use rules::Design;
 use spelling::Asked;
@@ -91,6 +92,10 @@ pub fn answer(
     }
     if let Service::Slot = service {
         let length = look(line, number, design, work, out);
+        return Answered { design, length };
+    }
+    if let Service::Score = service {
+        let length = score(line, number, design, rows, out);
         return Answered { design, length };
     }
     let answer = ask(service, line, design, work, rows);
