@@ -7,6 +7,7 @@ use rules::Design;
 use rules::Score;
 use rules::Scored;
 use spelling::NET_PLACES;
+use spelling::Put;
 use spelling::TERM_PLACES;
 use spelling::score_in;
 use telling::put_bits;
@@ -16,6 +17,7 @@ use telling::put_word;
 use words::is_fine;
 ghost use Prim.Native.Nat.{_≤_};
 ghost use lib.ListN.{length};
+ghost use Rattle.spelling.specs.Placed.{Placed};
 
 // Puts a score's answer: a reply's number and what is said beside it, and both values.
 fn put_score(out: &mut [u8], said: Numbered, score: Score) -> usize
@@ -45,6 +47,22 @@ fn put_scored(out: &mut [u8], scored: Scored) -> usize
     }
 }
 
+// Scores by the terms and nets that are put into these places.
+fn scored_by(
+    put: Put,
+    kinds: [u8; TERM_PLACES],
+    weights: [f64; TERM_PLACES],
+    nets: [u8; NET_PLACES],
+    design: Design,
+    rows: &[u8],
+) -> Scored
+    requires { ⌜ Placed put ⌝ }
+{
+    let terms = put.terms;
+    let bytes = put.bytes;
+    score_slices(design, rows, &kinds[0..terms], &weights[0..terms], &nets[0..bytes])
+}
+
 pub fn score(line: &[u8], number: usize, design: Design, rows: &[u8], out: &mut [u8]) -> usize
     ensures { λ r. ⌜ r ≤ length (now (out .exit)) ⌝ }
 {
@@ -56,8 +74,7 @@ pub fn score(line: &[u8], number: usize, design: Design, rows: &[u8], out: &mut 
     if !is_fine(why) {
         return put_bad(number, why, out);
     }
-    let terms = taken.put.terms;
-    let bytes = taken.put.bytes;
-    let scored = score_slices(design, rows, &kinds[0..terms], &weights[0..terms], &nets[0..bytes]);
+    let put = taken.put;
+    let scored = scored_by(put, kinds, weights, nets, design, rows);
     put_scored(out, scored)
 }

@@ -17,6 +17,7 @@ use rules::Rows;
 pub use said::Said;
 pub use said::design_in;
 pub use scores::NET_PLACES;
+pub use scores::Put;
 pub use scores::TERM_PLACES;
 pub use scores::score_in;
 pub use told::put_design;
