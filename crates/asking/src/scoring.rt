@@ -60,7 +60,13 @@ fn scored_by(
 {
     let terms = put.terms;
     let bytes = put.bytes;
-    score_slices(design, rows, &kinds[0..terms], &weights[0..terms], &nets[0..bytes])
+    score_slices(
+        design,
+        rows,
+        &kinds[0..terms],
+        &weights[0..terms],
+        &nets[0..bytes],
+    )
 }
 
 pub fn score(line: &[u8], number: usize, design: Design, rows: &[u8], out: &mut [u8]) -> usize

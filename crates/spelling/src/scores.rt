@@ -1,5 +1,6 @@
-// The terms and nets that a line says after its first word, put into lent places: for one term and one net more than a score
-// has, so that it is seen which are too many. What has no place is judged all the same.
+// The terms and nets that a line says after its first word, put into lent places. There are places for one term, one net and
+// in each net one member more than a score may have, so that the service sees what is too many; what has no place is judged as
+// words all the same.
 use check::same;
 use rules::MOST_MODULES;
 use rules::MOST_NETS;
@@ -14,7 +15,7 @@ ghost use Rattle.spelling.specs.Placed.{Placed};
 
 pub const TERM_PLACES: usize = MOST_TERMS + 1;
 
-// A net is the number of its members and then these, at most one more than there are modules.
+// A net takes a byte for the number of its members, and one for each.
 pub const NET_PLACES: usize = (MOST_NETS + 1) * (MOST_MODULES + 2);
 
 // The kinds of terms are 0 to 2.
@@ -28,7 +29,8 @@ pub struct Put {
     members: usize,
 }
 
-// What the next word is to be: a kind or `net`; a weight; or one of the first or a member.
+// What the next word is to be: one that begins a term or a net, a term's weight, or a member, which may as well be one that
+// begins something.
 enum Expected {
     Begin,
     Weight,
@@ -90,7 +92,7 @@ fn kind_of(word: &[u8]) -> u8 {
     KINDS
 }
 
-// A term is there once it has its weight.
+// The weight that a term's kind was put for: with it there is one term more.
 fn with_weight(put: Put, word: &[u8], weights: &mut [f64; TERM_PLACES]) -> Taken
     requires { ⌜ Placed put ⌝ }
     ensures { λ r. ⌜ Placed (r .put) ⌝ }
@@ -110,7 +112,7 @@ fn with_weight(put: Put, word: &[u8], weights: &mut [f64; TERM_PLACES]) -> Taken
     going(put, Expected::Begin)
 }
 
-// A net without members.
+// One net more, still without members.
 fn with_net(put: Put, nets: &mut [u8; NET_PLACES]) -> Taken
     requires { ⌜ Placed put ⌝ }
     ensures { λ r. ⌜ Placed (r .put) ⌝ }
@@ -131,7 +133,7 @@ fn byte_of(member: usize) -> u8 {
     member as u8
 }
 
-// One member more, unless the last net has too many already.
+// One member more in the last net, which is not put once there are too many.
 fn with_member(put: Put, word: &[u8], nets: &mut [u8; NET_PLACES]) -> Taken
     requires { ⌜ Placed put ⌝ }
     ensures { λ r. ⌜ Placed (r .put) ⌝ }
@@ -152,7 +154,7 @@ fn with_member(put: Put, word: &[u8], nets: &mut [u8; NET_PLACES]) -> Taken
     going(put, Expected::Member)
 }
 
-// A word that is no weight: a kind, `net`, or if there is a net, a member.
+// A word that need not be a weight.
 fn with_other(
     put: Put,
     in_net: bool,
@@ -196,7 +198,7 @@ fn with_word(
     }
 }
 
-// A line's end, which a kind without its weight does not stand before.
+// At the line's end no weight may be left to come.
 fn at_end(taken: Taken) -> Taken
     requires { ⌜ Placed (taken .put) ⌝ }
     ensures { λ r. ⌜ Placed (r .put) ⌝ }
@@ -209,7 +211,7 @@ fn at_end(taken: Taken) -> Taken
     going(put, Expected::Begin)
 }
 
-// Takes a line's words after the first.
+// Takes the words after a line's first, from the left, up to one that is wrong.
 pub fn score_in(
     line: &[u8],
     kinds: &mut [u8; TERM_PLACES],
