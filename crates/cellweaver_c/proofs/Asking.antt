@@ -42,9 +42,9 @@ pub said-refused : (e : Refusal) {n v : ℕ} → (n ≡ refusal e .number) × (v
 said-refused e s = rw (s .0, s .1) (refused-plainly e)
 
 -- a refused score has zeros, which the code writes out
-pub unscored-answer : {e : Refusal} {a : Answer} → a ≡ refusal e
+pub unscored-answer : (e : Refusal) {a : Answer} → a ≡ refusal e
     → _≡_ {A = ScoreAnswer} (record { reply = a; values = record { total = ofBits binary64 0; last = ofBits binary64 0 } }) (scoredAnswer (scored.Refused e))
-unscored-answer q = rw (q, zero-is)
+unscored-answer e q = rw (q, zero-is)
 
 -- what is read is lawful
 pub reads-lawful : (bytes : List ℕ) {h : Handed} → Reads bytes h → h .reply ≡ Done → LawfulDesign (h .design)

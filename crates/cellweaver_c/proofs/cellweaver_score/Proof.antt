@@ -16,7 +16,7 @@ say-scored-requires c κs = search needs
 
 returns : tie.Need-returns
 returns c =
-    let k = c .before .before .before in let s = c .say-scored .ensures in
+    let k = c .before .before .before .before .before in let s = c .say-scored .ensures in
     unread-asked (k .before .before .read .ensures) (k .reply .given .1) (ap (λ a. a .reply) s) (ap (λ a. a .values) s)
 
 enum-told : tie.Need-enum-told
@@ -30,7 +30,7 @@ say-scored-requires-2 c κs = search needs
 
 returns-2 : tie.Need-returns-2
 returns-2 c =
-    let k = c .before .before in let t = k .before in
+    let k = c .before .before .before .before in let t = k .before in
     read-asked (t .before .before .read .ensures) (t .enum-told .given .1) (_, k .score-slices .ensures, c .say-scored2 .ensures)
 
 pub cellweaver-score-spec : {M : Type 1} → statement M

@@ -19,7 +19,8 @@ returns : tie.Need-returns
 returns c = ap scoredAnswer (sym (c .before .scored .given .1))
 
 returns-2 : tie.Need-returns-2
-returns-2 c = unscored-answer (c .say-refused .ensures) ∙ ap scoredAnswer (sym (c .before .before .before .scored2 .given .1))
+returns-2 c =
+    let g = c .before .before .before .scored2 .given in unscored-answer (g .0 .0) (c .say-refused .ensures) ∙ ap scoredAnswer (sym (g .1))
 
 pub say-scored-spec : {M : Type 1} → statement M
 say-scored-spec =
