@@ -16,7 +16,6 @@ use Rattle.rules.specs.declared.Net.{Net}
 use Rattle.rules.specs.Design.{mostModules}
 use Rattle.rules.specs.Score.{mostNets, noNet, netAt, SameNet}
 use Rattle.rules.proofs.Searching.{test-iffs}
-use Rattle.costs.specs.declared.nets.Taken.{Taken}
 use Rattle.costs.specs.Slices.{netThere, netOf, firstNet, pastNet, netsIn}
 use Rattle.costs.specs.Places.{Copied, Taking, NetsFrom}
 
@@ -109,62 +108,62 @@ nets-none (suc k) = refl
 left-over : (s : List ℕ) (at : ℕ) → at < length s → 0 < length (drop at s)
 left-over s at h = let e = length-drop at s in omega arith
 
-pub take-none : (bytes : List ℕ) (t : Taken) → t .count ≡ 0 → t .at ≡ 0 → length (t .nets) ≡ mostNets → Taking bytes t
-take-none bytes t n z l = record {
+pub take-none : (bytes : List ℕ) (nets : List Net) → length nets ≡ mostNets → Taking bytes nets 0 0
+take-none bytes nets l = record {
   done = [];
-  rest = rw (n, z);
-  many = sym n;
+  rest = refl;
+  many = refl;
   few = omega arith;
   places = l;
   same = λ i h. absurd (omega arith);
 }
 
-module _ (bytes : List ℕ) (t : Taken) (z : Taking bytes t) where
-  pub take-next : t .at < length bytes → t .count < mostNets → (net : Net) → SameNet net (firstNet (drop (t .at) bytes))
-      → (next : ℕ) → drop next bytes ≡ pastNet (drop (t .at) bytes)
-      → Taking bytes (record { nets = set (t .nets) (t .count) net; count = t .count + 1; at = next })
+module _ (bytes : List ℕ) (nets : List Net) (count at : ℕ) (z : Taking bytes nets count at) where
+  pub take-next : at < length bytes → count < mostNets → (net : Net) → SameNet net (firstNet (drop at bytes))
+      → (next : ℕ) → drop next bytes ≡ pastNet (drop at bytes)
+      → Taking bytes (set nets count net) (count + 1) next
   take-next h k net e next q =
-      let first = firstNet (drop (t .at) bytes) in
-      let n : mostNets - t .count ≡ suc (mostNets - (t .count + 1)) = omega arith in
-      let more = nets-more (mostNets - (t .count + 1)) (drop (t .at) bytes) (left-over bytes (t .at) h) in
+      let first = firstNet (drop at bytes) in
+      let n : mostNets - count ≡ suc (mostNets - (count + 1)) = omega arith in
+      let more = nets-more (mostNets - (count + 1)) (drop at bytes) (left-over bytes at h) in
       record {
         done = z .done ++ (first ∷ []);
         rest = z .rest ∙ rw (n, more, q) (sym (append-assoc (z .done) (first ∷ []) _));
         many = length-append (z .done) (first ∷ []) ∙ rw (z .many);
         few = omega arith;
-        places = length-set (t .nets) (t .count) net ∙ z .places;
+        places = length-set nets count net ∙ z .places;
         same = λ i l. go i (eq-or-lt-of-le (omega (arith, l)));
       }
     where
-      go : (i : ℕ) → (suc i ≡ t .count + 1) ⊎ (suc i < t .count + 1)
-          → SameNet (netAt (set (t .nets) (t .count) net) i) (netAt (z .done ++ (firstNet (drop (t .at) bytes) ∷ [])) i)
+      go : (i : ℕ) → (suc i ≡ count + 1) ⊎ (suc i < count + 1)
+          → SameNet (netAt (set nets count net) i) (netAt (z .done ++ (firstNet (drop at bytes) ∷ [])) i)
       go i (inl e') =
-          let i-is : i ≡ t .count = omega arith in let p = z .places in let m = z .many in
-          let a = getD-set-same (t .nets) (t .count) net noNet (omega arith) in
-          let b = getD-at (z .done) (firstNet (drop (t .at) bytes)) [] noNet (t .count) m in rw (i-is, a, b) e
+          let i-is : i ≡ count = omega arith in let p = z .places in let m = z .many in
+          let a = getD-set-same nets count net noNet (omega arith) in
+          let b = getD-at (z .done) (firstNet (drop at bytes)) [] noNet count m in rw (i-is, a, b) e
       go i (inr l) =
           let m = z .many in
-          let a = getD-set-other (t .nets) (t .count) i net noNet (λ w. absurd (omega arith)) in
-          let b = List·getD-append (z .done) (firstNet (drop (t .at) bytes) ∷ []) noNet i (omega arith) in rw (a, b) (z .same i (omega arith))
+          let a = getD-set-other nets count i net noNet (λ w. absurd (omega arith)) in
+          let b = List·getD-append (z .done) (firstNet (drop at bytes) ∷ []) noNet i (omega arith) in rw (a, b) (z .same i (omega arith))
 
-  pub take-all : length bytes ≤ t .at → NetsFrom bytes (t .nets) (t .count)
+  pub take-all : length bytes ≤ at → NetsFrom bytes nets count
   take-all h =
       let e : netsIn mostNets bytes ≡ z .done = z .rest ∙ rw (drop-of-length-le bytes h, nets-none, append-nil) in
       record { many = sym (ap length e ∙ z .many); same = λ i l. rw e (z .same i l) }
 
-  pub take-over : t .count ≡ mostNets → t .at < length bytes → NetsFrom bytes (t .nets) (t .count + 1)
+  pub take-over : count ≡ mostNets → at < length bytes → NetsFrom bytes nets (count + 1)
   take-over k h =
-      let n : mostNets - t .count ≡ 0 = omega arith in
-      let e : netsIn mostNets bytes ≡ z .done ++ (noNet ∷ []) = z .rest ∙ rw (n, nets-over (drop (t .at) bytes) (left-over bytes (t .at) h)) in
+      let n : mostNets - count ≡ 0 = omega arith in
+      let e : netsIn mostNets bytes ≡ z .done ++ (noNet ∷ []) = z .rest ∙ rw (n, nets-over (drop at bytes) (left-over bytes at h)) in
       record {
         many = sym (ap length e ∙ length-append (z .done) (noNet ∷ []) ∙ rw (z .many));
         same = λ i l. rw e (go i (eq-or-lt-of-le (omega (arith, l))));
       }
     where
-      go : (i : ℕ) → (suc i ≡ t .count + 1) ⊎ (suc i < t .count + 1) → SameNet (netAt (t .nets) i) (netAt (z .done ++ (noNet ∷ [])) i)
+      go : (i : ℕ) → (suc i ≡ count + 1) ⊎ (suc i < count + 1) → SameNet (netAt nets i) (netAt (z .done ++ (noNet ∷ [])) i)
       go i (inl e') =
-          let p = z .places in let i-is : i ≡ t .count = omega arith in
-          let a = List·getD-eq-default (t .nets) noNet {n = t .count} (omega arith) in
-          let b = getD-at (z .done) noNet [] noNet (t .count) (z .many) in rw (i-is, a, b) (record { count = refl; members = λ j l. refl })
+          let p = z .places in let i-is : i ≡ count = omega arith in
+          let a = List·getD-eq-default nets noNet {n = count} (omega arith) in
+          let b = getD-at (z .done) noNet [] noNet count (z .many) in rw (i-is, a, b) (record { count = refl; members = λ j l. refl })
       go i (inr l) =
           let m = z .many in let b = List·getD-append (z .done) (noNet ∷ []) noNet i (omega arith) in rw b (z .same i (omega arith))

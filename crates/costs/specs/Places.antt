@@ -8,7 +8,6 @@ use Rattle.rules.specs.declared.Term.{Term}
 use Rattle.rules.specs.declared.Net.{Net}
 use Rattle.rules.specs.Design.{mostModules}
 use Rattle.rules.specs.Score.{mostTerms, mostNets, termAt, netAt, SameNet}
-use Rattle.costs.specs.declared.nets.Taken.{Taken}
 use Rattle.costs.specs.Slices.{termsIn, netsIn}
 
 -- how many kinds have a weight, of those that there are places for
@@ -25,14 +24,14 @@ pub record Copied (bytes : List ℕ) (at n : ℕ) (members : List ℕ) : Type 0 
   pub places : length members ≡ mostModules
   pub each : (j : ℕ) → j < n → getD members j 0 ≡ getD bytes (at + j) 0
 
--- the nets so far in their places, and what is left to take
-pub record Taking (bytes : List ℕ) (t : Taken) : Type 0 where
+-- so many nets in their places, taken from the bytes before a place, and what is left to take
+pub record Taking (bytes : List ℕ) (nets : List Net) (count at : ℕ) : Type 0 where
   pub done : List Net
-  pub rest : netsIn mostNets bytes ≡ done ++ netsIn (mostNets - t .count) (drop (t .at) bytes)
-  pub many : length done ≡ t .count
-  pub few : t .count ≤ mostNets
-  pub places : length (t .nets) ≡ mostNets
-  pub same : (i : ℕ) → i < t .count → SameNet (netAt (t .nets) i) (netAt done i)
+  pub rest : netsIn mostNets bytes ≡ done ++ netsIn (mostNets - count) (drop at bytes)
+  pub many : length done ≡ count
+  pub few : count ≤ mostNets
+  pub places : length nets ≡ mostNets
+  pub same : (i : ℕ) → i < count → SameNet (netAt nets i) (netAt done i)
 
 -- all nets in their places
 pub record NetsFrom (bytes : List ℕ) (nets : List Net) (count : ℕ) : Type 0 where

@@ -6,15 +6,14 @@ ghost use mathlib.Core.Path.{_≡_};
 ghost use Prim.Native.Nat.{_+_, _≤_, _<_};
 ghost use lib.ListN.{length, drop};
 ghost use Rattle.rules.specs.Design.{mostModules};
-ghost use Rattle.rules.specs.Score.{mostNets, SameNet};
+ghost use Rattle.rules.specs.Score.{SameNet};
 ghost use Rattle.costs.specs.Slices.{netThere, firstNet, pastNet};
-ghost use Rattle.costs.specs.Places.{Copied, Taking, NetsFrom};
+ghost use Rattle.costs.specs.Places.{Copied, NetsFrom};
 
-// The nets in their places, how many there are, and how many bytes they are taken from.
+// The nets in their places, and how many there are.
 pub struct Taken {
     pub nets: [Net; MOST_NETS],
     pub count: usize,
-    pub at: usize,
 }
 
 // So many bytes from a place on.
@@ -72,57 +71,27 @@ fn past_net(bytes: &[u8], at: usize) -> usize
     at + 1 + bytes[at] as usize
 }
 
-// With the next net.
-fn with_net(taken: Taken, bytes: &[u8]) -> Taken
-    requires { ⌜ Taking (now bytes) taken × (taken .at < length (now bytes)) × (taken .count < mostNets) ⌝ }
-    ensures { λ r. ⌜ Taking (now (bytes .entry)) r × (r .count ≡ taken .count + 1) ⌝ }
-{
-    let at = taken.at;
-    let count = taken.count;
-    let mut nets = taken.nets;
-    nets[count] = net_at(bytes, at);
-    Taken {
-        nets,
-        count: count + 1,
-        at: past_net(bytes, at),
-    }
-}
-
-// No net yet.
-fn none_taken() -> Taken
-    ensures { λ r. ⌜ (r .count ≡ 0) × (r .at ≡ 0) × (length (r .nets) ≡ mostNets) ⌝ }
-{
-    let none = no_net();
-    Taken {
-        nets: [none; MOST_NETS],
-        count: 0,
-        at: 0,
-    }
-}
-
-// One net more, which has no place.
-fn one_more(taken: Taken) -> Taken
-    requires { ⌜ taken .count ≤ mostNets ⌝ }
-    ensures { λ r. ⌜ (r .nets ≡ taken .nets) × (r .count ≡ taken .count + 1) ⌝ }
-{
-    let mut more = taken;
-    more.count = taken.count + 1;
-    more
-}
-
 // All nets, in their places; one that has no place is counted.
 pub fn nets_in(bytes: &[u8]) -> Taken
     ensures { λ r. ⌜ NetsFrom (now (bytes .entry)) (r .nets) (r .count) ⌝ }
 {
-    let mut taken = none_taken();
-    while taken.count < MOST_NETS {
-        if bytes.len() <= taken.at {
-            return taken;
+    let mut nets = [no_net(); MOST_NETS];
+    let mut at = 0;
+    for count in 0..MOST_NETS {
+        if bytes.len() <= at {
+            return Taken { nets, count };
         }
-        taken = with_net(taken, bytes);
+        nets[count] = net_at(bytes, at);
+        at = past_net(bytes, at);
     }
-    if bytes.len() <= taken.at {
-        return taken;
+    if bytes.len() <= at {
+        return Taken {
+            nets,
+            count: MOST_NETS,
+        };
     }
-    one_more(taken)
+    Taken {
+        nets,
+        count: MOST_NETS + 1,
+    }
 }

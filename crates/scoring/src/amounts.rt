@@ -17,7 +17,7 @@ ghost use Prim.Native.Nat.{_+_, _-_, _*_, _≤_, _<_};
 ghost use lib.ListN.{length};
 ghost use Rattle.rules.specs.Design.{mostModules, LawfulDesign};
 ghost use Rattle.rules.specs.Check.{fromRows};
-ghost use Rattle.rules.specs.Score.{exact, areaOf, ratioMore, ratioOf, memberAt, halfPerimeter, wireOf, lawfulNet, lawfulNets, mostNets};
+ghost use Rattle.rules.specs.Score.{exact, areaOf, ratioMore, ratioOf, halfPerimeter, wireOf, lawfulNet, lawfulNets, mostNets};
 ghost use Rattle.rows.specs.Row.{Bytes};
 ghost use Rattle.extents.specs.Sides.{extentOf};
 ghost use Rattle.scoring.specs.Amounts.{Near, mostSide, pointOf, modulesTo, membersTo, amountsOf};
@@ -105,13 +105,11 @@ fn point_of(r: Rectangle) -> Extent
     }
 }
 
-// The doubled centre of a net's member.
-fn member_point(rows: &[u8], modules: usize, net: Net, j: usize) -> Extent
-    requires { ⌜ So (lawfulNet modules net) × (4 * modules ≤ length (now rows)) × (j < net .count) ⌝ }
-    ensures { λ e. ⌜ (e ≡ pointOf (fromRows (now (rows .entry)) (memberAt net j))) × Near e ⌝ }
+// The doubled centre of a module's rectangle.
+fn module_point(rows: &[u8], k: usize) -> Extent
+    requires { ⌜ 4 * k + 4 ≤ length (now rows) ⌝ }
+    ensures { λ e. ⌜ (e ≡ pointOf (fromRows (now (rows .entry)) k)) × Near e ⌝ }
 {
-    let members = net.modules;
-    let k = members[j] as usize;
     point_of(rectangle_at(rows, k))
 }
 
@@ -120,9 +118,10 @@ fn members_extent(rows: &[u8], modules: usize, net: Net) -> Extent
     requires { ⌜ So (lawfulNet modules net) × (4 * modules ≤ length (now rows)) ⌝ }
     ensures { λ e. ⌜ (e ≡ membersTo (net .count - 1) (fromRows (now (rows .entry))) net) × Near e ⌝ }
 {
-    let mut extent = member_point(rows, modules, net, 0);
+    let members = net.modules;
+    let mut extent = module_point(rows, members[0] as usize);
     for j in 1..net.count {
-        extent = together(extent, member_point(rows, modules, net, j));
+        extent = together(extent, module_point(rows, members[j] as usize));
     }
     extent
 }
