@@ -62,10 +62,8 @@ module _ (d : Design) (sized : Sized d) (rows : List ℕ) (c : Cost) where
         pub score-ready : Ready d rows c
         score-ready =
             let l = passed-is-lawful d rows passed in record {
-              design = l;
-              places = passes-iff d l rows .0 passed .0;
+              countable = record { design = l; places = passes-iff d l rows .0 passed .0; lawful = nets };
               terms = terms-limits (c .terms) (c .termCount) terms .most;
-              nets = nets;
             }
 
         pub score-done : {s : Score} → s ≡ scoreOf d (fromRows rows) c → Scores d rows c (Values s)

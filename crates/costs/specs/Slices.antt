@@ -56,7 +56,9 @@ unfoldable pub netsIn : ℕ → List ℕ → List Net
 netsIn zero s = ifLeft s (noNet ∷ [])
 netsIn (suc most) s = ifLeft s (firstNet s ∷ netsIn most (pastNet s))
 
--- what a score is asked with
+-- what a score is asked with: all these terms and nets
+abbrev pub costOf : List Term → List Net → Cost
+costOf terms nets = cost terms (length terms) nets (length nets)
+
 abbrev pub costIn : List ℕ → List Float → List ℕ → Cost
-costIn kinds weights bytes =
-    cost (termsIn mostTerms kinds weights) (length (termsIn mostTerms kinds weights)) (netsIn mostNets bytes) (length (netsIn mostNets bytes))
+costIn kinds weights bytes = costOf (termsIn mostTerms kinds weights) (netsIn mostNets bytes)

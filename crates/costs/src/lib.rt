@@ -10,6 +10,7 @@ use rules::Scored;
 use terms::term_count;
 use terms::terms_in;
 ghost use Rattle.rules.specs.Service.{Scores};
+ghost use Rattle.lending.specs.Lent.{given};
 ghost use Rattle.costs.specs.Slices.{costIn};
 
 // The score of a floorplan in rows, by terms and nets in slices.
@@ -20,7 +21,7 @@ pub fn score_slices(
     weights: &[f64],
     nets: &[u8],
 ) -> Scored
-    ensures { λ r. ⌜ Scores design (now (rows .entry)) (costIn (now (kinds .entry)) (now (weights .entry)) (now (nets .entry))) r ⌝ }
+    ensures { λ r. ⌜ Scores design (given rows) (costIn (given kinds) (given weights) (given nets)) r ⌝ }
 {
     let terms = terms_in(kinds, weights);
     let count = term_count(kinds, weights);

@@ -57,9 +57,12 @@ unfoldable pub afterTerms : Amounts → List Term → ℕ → Score
 afterTerms a terms zero = noScore
 afterTerms a terms (suc n) = afterTerm (afterTerms a terms n) a (termAt terms n)
 
--- what has been tested before a score is reckoned
-pub record Ready (d : Design) (rows : List ℕ) (c : Cost) : Type 0 where
+-- what has been tested before the amounts of a floorplan are worked out, and before its score is
+pub record Countable (d : Design) (rows : List ℕ) (nets : List Net) (n : ℕ) : Type 0 where
   pub design : LawfulDesign d
   pub places : rowsOf d ≤ length rows
+  pub lawful : So (lawfulNets (d .modules) nets n)
+
+pub record Ready (d : Design) (rows : List ℕ) (c : Cost) : Type 0 where
+  pub countable : Countable d rows (c .nets) (c .netCount)
   pub terms : c .termCount ≤ mostTerms
-  pub nets : So (lawfulNets (d .modules) (c .nets) (c .netCount))

@@ -20,7 +20,7 @@ ghost use Rattle.rules.specs.Check.{fromRows};
 ghost use Rattle.rules.specs.Score.{exact, areaOf, ratioMore, ratioOf, halfPerimeter, wireOf, lawfulNet, lawfulNets, mostNets};
 ghost use Rattle.rows.specs.Row.{Bytes};
 ghost use Rattle.extents.specs.Sides.{extentOf};
-ghost use Rattle.scoring.specs.Amounts.{Near, mostSide, pointOf, modulesTo, membersTo, amountsOf};
+ghost use Rattle.scoring.specs.Amounts.{Near, mostSide, pointOf, modulesTo, membersTo, Countable, amountsOf};
 
 // What each kind of term counts, without its weight.
 pub struct Amounts {
@@ -152,7 +152,7 @@ fn wire_of(rows: &[u8], modules: usize, nets: [Net; MOST_NETS], count: usize) ->
 
 // All three.
 pub fn amounts_of(design: Design, rows: &[u8], nets: [Net; MOST_NETS], count: usize) -> Amounts
-    requires { ⌜ LawfulDesign design × So (lawfulNets (design .modules) nets count) × (4 * design .modules ≤ length (now rows)) ⌝ }
+    requires { ⌜ Countable design (now rows) nets count ⌝ }
     ensures { λ r. ⌜ r ≡ amountsOf design (fromRows (now (rows .entry))) nets count ⌝ }
 {
     Amounts {

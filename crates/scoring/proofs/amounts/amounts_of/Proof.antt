@@ -15,7 +15,7 @@ exact-of-requires : tie.Need-exact-of-requires
 exact-of-requires c κs = search needs
 
 ratio-of-requires : tie.Need-ratio-of-requires
-ratio-of-requires c κs = let p = c .before .before .before .pre in let m = limits _ (p .0) in (omega arith, p .2)
+ratio-of-requires c κs = let p = c .before .before .before .pre in let m = limits _ (p .design) in (omega arith, p .places)
 
 wire-of-requires : tie.Need-wire-of-requires
 wire-of-requires c κs = search needs
