@@ -1,3 +1,4 @@
 -- Laws of terms and nets in slices.
 pub mod Pairing
 pub mod Netting
+pub mod Saying

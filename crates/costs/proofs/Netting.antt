@@ -34,15 +34,15 @@ copied-more {s} {at} {n} {members} l c =
     go j (inr k) = getD-set-other members n j (getD s (at + n) 0) 0 (λ w. absurd (omega arith)) ∙ c .each j (omega arith)
 
 -- a net that is there, and none
-first-there : (s : List ℕ) → netThere s ≡ true → firstNet s ≡ netOf s
+pub first-there : (s : List ℕ) → netThere s ≡ true → firstNet s ≡ netOf s
 unfolding firstNet
 first-there s t = rw (firstNet, t)
 
-first-none : (s : List ℕ) → netThere s ≡ false → firstNet s ≡ noNet
+pub first-none : (s : List ℕ) → netThere s ≡ false → firstNet s ≡ noNet
 unfolding firstNet
 first-none s f = rw (firstNet, f)
 
-past-there : (s : List ℕ) → netThere s ≡ true → pastNet s ≡ drop (suc (netOf s .count)) s
+pub past-there : (s : List ℕ) → netThere s ≡ true → pastNet s ≡ drop (suc (netOf s .count)) s
 unfolding pastNet
 past-there s t = rw (pastNet, t)
 

@@ -1,8 +1,9 @@
 -- Terms and nets in slices, as a program in another language hands them over: kinds and weights as two slices, nets as bytes n k1..kn one after
 -- another. What is no term or net there becomes one that no score is given for: 15, 16.
+use mathlib.Core.Path.{_≡_}
 use mathlib.Core.Bool.{Bool, true, false, _&&_}
-use mathlib.Core.List.{List, [], _∷_}
-use Prim.Native.Nat.{ℕ, zero, suc}
+use mathlib.Core.List.{List, [], _∷_, _++_}
+use Prim.Native.Nat.{ℕ, zero, suc, _≤_}
 use lib.Dec.{leb}
 use lib.ListN.{length, take, drop}
 use lib.Ieee.{Float, nan}
@@ -62,3 +63,18 @@ costOf terms nets = cost terms (length terms) nets (length nets)
 
 abbrev pub costIn : List ℕ → List Float → List ℕ → Cost
 costIn kinds weights bytes = costOf (termsIn mostTerms kinds weights) (netsIn mostNets bytes)
+
+-- How a program says terms and nets: a term by its kind's number and its weight, a net by its count and then its members, n k1..kn.
+abbrev pub kindNumber : Term → ℕ
+kindNumber (Area w) = 0
+kindNumber (Ratio w) = 1
+kindNumber (Wire w) = 2
+
+unfoldable pub netsBytes : List Net → List ℕ
+netsBytes [] = []
+netsBytes (net ∷ nets) = net .count ∷ (net .modules ++ netsBytes nets)
+
+-- a net as it is said: as many members as it counts, and places for them
+pub record Said (net : Net) : Type 0 where
+  pub members : length (net .modules) ≡ net .count
+  pub few : net .count ≤ mostModules
