@@ -3,11 +3,9 @@ use mathlib.Core.Path.{_≡_, refl, sym, _∙_, ap}
 use mathlib.Core.Bool.{false}
 use mathlib.Core.List.{List}
 use Prim.Native.Nat.{ℕ}
-use native.Mathlib.Omega.{arith}
 use Rattle.rules.specs.declared.Design.{Design}
 use Rattle.rules.specs.declared.Refusal.{Refusal}
 use Rattle.rules.specs.declared.Refusal.the-variants.{BadTerm, BadNet}
-use Rattle.rules.specs.declared.Reply.{Reply}
 use Rattle.rules.specs.declared.Reply.the-variants.{Done, Refused}
 use Rattle.rules.specs.declared.Score.{Score}
 use Rattle.rules.specs.declared.Scored.the-variants.{Values}
@@ -17,32 +15,26 @@ use Rattle.rules.specs.Check.{verdict, fromRows}
 use Rattle.rules.specs.Score.{Cost, lawfulTerms, lawfulNets, scoreOf}
 use Rattle.rules.specs.Service.{TermsLawful, NetsLawful, Scores}
 use Rattle.rules.proofs.Searching.{absurd-so}
+use Rattle.rules.proofs.Nodes.{not-both, one-refusal}
 use Rattle.rules.proofs.Checking.{passed-is-lawful, passes-iff}
 use Rattle.rules.proofs.Scoring.{terms-limits}
 use Rattle.scoring.specs.Amounts.{Ready}
-
--- the checker either passes or refuses, and refuses in one way
-never-both : {r : Reply} {e : Refusal} {A : Type 0} → r ≡ Refused e → r ≡ Done → A
-never-both p q = let z : _≡_ {A = ℕ} 0 1 = cc in absurd (omega arith)
-
-one-refusal : {r : Reply} {e f : Refusal} → r ≡ Refused e → r ≡ Refused f → e ≡ f
-one-refusal p q = cc
 
 module _ (d : Design) (sized : Sized d) (rows : List ℕ) (c : Cost) where
   pub score-refuses : {e : Refusal} → verdict d rows ≡ Refused e → Scores d rows c (scored.Refused e)
   score-refuses u = record {
     sized = sized;
     judged = λ f q. ap scored.Refused (one-refusal u q);
-    bad-term = λ p _. never-both u p;
-    bad-net = λ p _ _. never-both u p;
-    done = λ p _ _. never-both u p;
+    bad-term = λ p _. not-both u p;
+    bad-net = λ p _ _. not-both u p;
+    done = λ p _ _. not-both u p;
   }
 
   module _ (passed : verdict d rows ≡ Done) where
     pub score-bad-term : lawfulTerms (c .terms) (c .termCount) ≡ false → Scores d rows c (scored.Refused BadTerm)
     score-bad-term f = record {
       sized = sized;
-      judged = λ e u. never-both u passed;
+      judged = λ e u. not-both u passed;
       bad-term = λ _ _. refl;
       bad-net = λ _ t _. absurd-so (sym f ∙ t);
       done = λ _ t _. absurd-so (sym f ∙ t);
@@ -52,7 +44,7 @@ module _ (d : Design) (sized : Sized d) (rows : List ℕ) (c : Cost) where
       pub score-bad-net : lawfulNets (d .modules) (c .nets) (c .netCount) ≡ false → Scores d rows c (scored.Refused BadNet)
       score-bad-net f = record {
         sized = sized;
-        judged = λ e u. never-both u passed;
+        judged = λ e u. not-both u passed;
         bad-term = λ _ n. absurd (n terms);
         bad-net = λ _ _ _. refl;
         done = λ _ _ t. absurd-so (sym f ∙ t);
@@ -69,7 +61,7 @@ module _ (d : Design) (sized : Sized d) (rows : List ℕ) (c : Cost) where
         pub score-done : {s : Score} → s ≡ scoreOf d (fromRows rows) c → Scores d rows c (Values s)
         score-done e = record {
           sized = sized;
-          judged = λ f u. never-both u passed;
+          judged = λ f u. not-both u passed;
           bad-term = λ _ n. absurd (n terms);
           bad-net = λ _ _ n. absurd (n nets);
           done = λ _ _ _. ap Values e;

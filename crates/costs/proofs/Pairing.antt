@@ -2,18 +2,16 @@
 -- Assumes nothing.
 use mathlib.Core.Path.{_≡_, refl, sym, _∙_, ap}
 use mathlib.Core.Logic.{_⊎_, inl, inr}
-use mathlib.Core.Bool.{Bool, true, false}
 use mathlib.Core.List.{List, [], _∷_}
 use Prim.Native.Nat.{ℕ, zero, suc, _+_, _≤_, _<_, min}
 use native.Mathlib.Nat.{eq-or-lt-of-le}
 use native.Mathlib.Omega.{arith}
-use lib.Dec.{ltb}
 use lib.ListN.{length, getD, set, replicate, length-replicate, length-set, getD-replicate, List·getD-eq-default}
 use lib.Seq.{getD-set-same, getD-set-other}
 use lib.Ieee.{Float}
-use borrow.Author.Tests.{ltb-true, ltb-false}
 use Rattle.rules.specs.declared.Term.{Term}
 use Rattle.rules.specs.Score.{mostTerms, termAt}
+use Rattle.rules.proofs.Searching.{before-or-not}
 use Rattle.costs.specs.Slices.{noTerm, termOf, termsIn}
 use Rattle.costs.specs.Places.{pairs, TermsFrom}
 
@@ -68,13 +66,6 @@ count-odd most (k ∷ ks) [] f = omega arith
 count-odd zero (k ∷ ks) (w ∷ ws) f = omega arith
 count-odd (suc most) (k ∷ ks) (w ∷ ws) f =
     let z = count-odd most ks ws (λ e. let y = f (ap suc e) in omega arith) in omega arith
-
-before-or-not : (j i : ℕ) → (j < i) ⊎ (i ≤ j)
-before-or-not j i = go (ltb j i) refl
-  where
-    go : (b : Bool) → ltb j i ≡ b → (j < i) ⊎ (i ≤ j)
-    go true e = inl (ltb-true j i e)
-    go false e = inr (ltb-false j i e)
 
 pub left-over : (ks : List ℕ) (ws : List Float) (n : ℕ) → n ≡ pairs ks ws → (length ks ≡ n → length ws ≡ n → ⊥)
     → n + 1 ≡ length (termsIn mostTerms ks ws)

@@ -12,6 +12,7 @@ use Rattle.rules.specs.declared.Planned.the-variants as planned
 use Rattle.rules.specs.Design.{mostModules}
 use Rattle.rules.specs.Bytes.{Took, took, refuse, designAt}
 use Rattle.rules.specs.Service.{Reads, Plans, handed, zeros}
+use Rattle.rules.proofs.Nodes.{not-both, one-refusal}
 use Rattle.rules.proofs.Limits.{limits}
 use Rattle.rules.proofs.Reading.{read-lawful}
 use Rattle.lending.specs.Lent.{lending}
@@ -26,17 +27,13 @@ few-read s {h} e = rw e (go (designAt s) refl)
     go (took d n) q = limits d (read-lawful s d n q .0) .modules
     go (refuse e) q = omega arith
 
--- a reading that is refused is not done
-never-both : (h : Handed) {e : Refusal} {A : Type 0} → h .reply ≡ reply.Refused e → h .reply ≡ reply.Done → A
-never-both h p q = let z : _≡_ {A = ℕ} 0 1 = cc in absurd (omega arith)
-
 pub answers-refused : (h : Handed) {e : Refusal} {work rows : List ℕ} → h .reply ≡ reply.Refused e
     → Answers h (lending work work) (lending rows rows) (planned.Refused e)
 answers-refused h {e} p = record {
-  refused = λ f q. (let s : e ≡ f = cc in ap planned.Refused s, refl, refl);
-  done = λ q. never-both h p q;
+  refused = λ f q. (ap planned.Refused (one-refusal p q), refl, refl);
+  done = λ q. not-both p q;
 }
 
 pub answers-planned : (h : Handed) {r : Planned} {work rows work' rows' : List ℕ} → h .reply ≡ reply.Done
     → Plans (h .design) work rows r work' rows' → Answers h (lending work work') (lending rows rows') r
-answers-planned h q z = record { refused = λ e p. never-both h p q; done = λ _. z }
+answers-planned h q z = record { refused = λ e p. not-both p q; done = λ _. z }

@@ -4,8 +4,6 @@ use mathlib.Core.Logic.{_⊎_, inl, inr, ⊎-elim}
 use mathlib.Core.Bool.{So}
 use mathlib.Core.List.{List}
 use Prim.Native.Nat.{ℕ, _≤_, _<_}
-use native.Mathlib.Omega.{arith}
-use native.Mathlib.Decide.{decLe}
 use lib.ListN.{length}
 use Rattle.rules.specs.declared.Corner.{Corner}
 use Rattle.rules.specs.declared.Shape.{Shape}
@@ -23,7 +21,7 @@ use Rattle.rules.specs.Check.{verdict}
 use Rattle.rules.specs.Score.{Cost, lawfulTerms, lawfulNets}
 use Rattle.rules.specs.Service.{Enough, workOf, rowsOf, TermsLawful, NetsLawful}
 use Rattle.rules.proofs.Test.{goesFor}
-use Rattle.rules.proofs.Searching.{know}
+use Rattle.rules.proofs.Searching.{before-or-not, know}
 use Rattle.rules.proofs.Choosing.{chooses}
 use Rattle.rules.proofs.Floorplans.{laid-goes, goes-laid}
 use Rattle.rules.proofs.Stairs.{stairs-or-not}
@@ -42,21 +40,14 @@ tests-first d {Short} {Given} f = go (valueTest d) refl
     go (Refused e) q = unlawful e q
 
 -- one buffer of n bytes
-shorter : (n m : ℕ) → (m < n) ⊎ (n ≤ m)
-shorter n m = go (decLe n m)
-  where
-    go : Dec (n ≤ m) → (m < n) ⊎ (n ≤ m)
-    go (yes h) = inr h
-    go (no h) = inl (omega arith)
-
 pub one-lent : (d : Design) (n : ℕ) (lent : List ℕ) → Lent d (length lent < n) (n ≤ length lent)
-one-lent d n lent = tests-first d (λ _. shorter n (length lent))
+one-lent d n lent = tests-first d (λ _. before-or-not (length lent) n)
 
 -- work and rows
 pub two-lent : (d : Design) (work rows : List ℕ) → Lent d ((length work < workOf d) ⊎ (length rows < rowsOf d)) (Enough d work rows)
 two-lent d work rows = tests-first d λ l. ⊎-elim (λ h. inl (inl h))
-    (λ h. ⊎-elim (λ k. inl (inr k)) (λ k. inr (record { lawful = l; bytes = h; places = k })) (shorter (rowsOf d) (length rows)))
-    (shorter (workOf d) (length work))
+    (λ h. ⊎-elim (λ k. inl (inr k)) (λ k. inr (record { lawful = l; bytes = h; places = k })) (before-or-not (length rows) (rowsOf d)))
+    (before-or-not (length work) (workOf d))
 
 -- place, with enough room: over whatever stands in work
 pub data Placing (d : Design) (slots : ℕ → Corner → ℕ → ℕ) : Type 0 where

@@ -26,7 +26,7 @@ use Rattle.rules.specs.Placement.{furthest}
 use Rattle.rules.specs.Design.{valueTest, withinLimits, lawfulChip, inRange, lawfulNeed, slotRows}
 use Rattle.rules.specs.Bytes.{padded}
 use Rattle.rules.specs.Check.{fromRows, isOnChip, isAtMost, isKept, judgedCuts, judgedRows, verdict}
-use Rattle.rules.specs.Score.{Names, Cost, cost, noNet, noScore, lawfulWeight, lawfulTerms, lawfulNet, lawfulNets, areaOf, ratioOf, greatestTo, leastTo, spread, wireOf, scoreAfter, scoreOf}
+use Rattle.rules.specs.Score.{NamedAlike, Names, Cost, cost, noNet, noScore, lawfulWeight, lawfulTerms, lawfulNet, lawfulNets, areaOf, ratioOf, greatestTo, leastTo, spread, wireOf, scoreAfter, scoreOf}
 use Rattle.rules.specs.Reply.{Answer, ScoreAnswer, plainly, answer, plannedAnswer, scoredAnswer}
 use Rattle.rules.specs.Service.{Enough, TermsLawful, NetsLawful}
 use Rattle.rules.specs.Bench.{D}
@@ -35,7 +35,7 @@ use Rattle.rules.proofs.Nodes.{lawful-iff, lawful-tree, follows-by-nodes}
 use Rattle.promises.specs.Services.{Services}
 use Rattle.promises.specs.Demand1
 use Rattle.promises.specs.Demand1.{Tested, CheckNumbered, ScoreNumbered, Passed}
-use Rattle.promises.specs.Scoring.{scoreNumber, valuesOf, NotNegative, finite, NamedAlike, AreaLast, ScoredWell}
+use Rattle.promises.specs.Scoring.{scoreNumber, valuesOf, NotNegative, finite, AreaLast, ScoredWell}
 use Rattle.promises.proofs.Answering.{passed}
 use Rattle.promises.proofs.Inputs.{D-lawful, tall, tall-breaks-limits, twice, twice-bad-token, printed, half-block, over-the-side, printed-lawful, of-lawful, gets-4, gets-5}
 use Rattle.promises.proofs.RefuteAnswers.{half-not-suited}

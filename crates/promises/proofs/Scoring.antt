@@ -1,27 +1,24 @@
 -- Order 1's promises of a score. Which outcome of its contract came about is read off its number; a granted one is the score of a
 -- lawful floorplan with lawful terms and nets, of which the rules' laws speak, and rows from plan hold plan's floorplan. Assumes nothing.
-use mathlib.Core.Path.{_≡_, refl, sym, _∙_, ap}
+use mathlib.Core.Path.{_≡_, sym, _∙_, ap}
 use mathlib.Core.Logic.{_⊎_, inl, inr, ⊎-elim, _↔_}
 use mathlib.Core.Bool.{true, false, true≢false}
 use mathlib.Core.List.{List}
-use Prim.Native.Nat.{ℕ, zero, suc, _-_, _≤_, _<_}
+use Prim.Native.Nat.{ℕ, zero, suc, _-_, _≤_}
 use native.Mathlib.Omega.{arith}
-use native.Mathlib.Nat.{le-refl}
 use native.Mathlib.Numerals.{unary-clauses}
 use lib.Dec.{lit≤}
 use lib.ListN.{length, length-append}
 use lib.Ieee.{Float, nan, inf, fin}
 use Rattle.rules.specs.declared.Design.{Design}
-use Rattle.rules.specs.declared.Net.{Net}
-use Rattle.rules.specs.declared.Term.{Term}
-use Rattle.rules.specs.declared.Term.the-variants.{Area, Ratio, Wire}
+use Rattle.rules.specs.declared.Term.the-variants.{Area}
 use Rattle.rules.specs.declared.Reply.{Reply}
 use Rattle.rules.specs.declared.Reply.the-variants.{Done}
 use Rattle.rules.specs.declared.Planned.{Planned}
 use Rattle.rules.specs.declared.Scored.{Scored}
 use Rattle.rules.specs.Placement.{Placement, area}
 use Rattle.rules.specs.Design.{slotsOf}
-use Rattle.rules.specs.Score.{Names, Cost, exact, noScore, termAt, netAt, areaOf, wireOf, amountOf, scoreAfter, scoreOf}
+use Rattle.rules.specs.Score.{NamedAlike, Cost, exact, noScore, termAt, areaOf, amountOf, scoreAfter, scoreOf}
 use Rattle.rules.specs.Check.{fromRows, verdict}
 use Rattle.rules.specs.Reply.{answer, plannedAnswer, scoredAnswer}
 use Rattle.rules.specs.Service.{Plans, Checks, Scores, Enough, rowsOf, TermsLawful, NetsLawful}
@@ -30,12 +27,13 @@ use Rattle.rules.proofs.Floorplans.{planned}
 use Rattle.rules.proofs.RowsOut.{length-rows}
 use Rattle.rules.proofs.Checking.{passes-iff}
 use Rattle.rules.proofs.Floats.{UpTo, exact-up-to}
-use Rattle.rules.proofs.Scoring.{NetLimits, nets-limits, score-finite}
-use Rattle.rules.proofs.Costs.{named-twice}
+use Rattle.rules.proofs.Scoring.{score-finite}
+use Rattle.rules.proofs.Same.{same-refl}
+use Rattle.rules.proofs.Costs.{score-alike}
 use Rattle.promises.specs.Services.{Services, Keeping}
 use Rattle.promises.specs.Demand1.{Refusing}
 use Rattle.promises.specs.Demand2.{GoodPlan}
-use Rattle.promises.specs.Scoring.{scoreNumber, valuesOf, NotNegative, finite, NamedAlike, AreaLast, ScoredWell}
+use Rattle.promises.specs.Scoring.{scoreNumber, valuesOf, NotNegative, finite, AreaLast, ScoredWell}
 use Rattle.promises.proofs.Cases.{Scoring, faulty, bad-term, bad-net, scored, scoring}
 use Rattle.promises.proofs.Copying.{refusal-not-0, is-done}
 use Rattle.promises.proofs.Planning.{planned-well}
@@ -147,41 +145,12 @@ module _ (d : Design) (before rows after rows' : List ℕ) (r : Planned) (h : En
       let g = granted d rows' c q y e in
       ap (λ s. s .last) (g .values) ∙ area-after d (fromRows rows') c (a .weight) (c .termCount) (a .some) (a .last) ∙ rw (good .boxed)
 
--- nets that name the same modules have the same wire, so costs with such nets have the same score
-module _ (p : Placement) (m : ℕ) (f g : List Net) where
-  wire-alike : (n : ℕ) → ((i : ℕ) → i < n → Names (netAt f i) (netAt g i) × Names (netAt g i) (netAt f i))
-      → ((i : ℕ) → i < n → NetLimits m (netAt f i)) → ((i : ℕ) → i < n → NetLimits m (netAt g i)) → wireOf p f n ≡ wireOf p g n
-  unfolding wireOf
-  wire-alike zero z k l = refl
-  wire-alike (suc n) z k l =
-      let h = le-refl (suc n) in let (a, b) = z n h in
-      let rest = wire-alike n (λ i j. z i (omega arith)) (λ i j. k i (omega arith)) (λ i j. l i (omega arith)) in
-      rw (rest, named-twice p (netAt f n) (netAt g n) (k n h .some) (l n h .some) a b)
-
-module _ (d : Design) (p : Placement) (a b : Cost) (z : NamedAlike a b) (k : NetsLawful d a) (l : NetsLawful d b) where
-  amount-alike : (t : Term) → amountOf d p a t ≡ amountOf d p b t
-  amount-alike (Area w) = refl
-  amount-alike (Ratio w) = refl
-  amount-alike (Wire w) =
-      let m = d .modules in let e = z .netCount in
-      let same = wire-alike p m (a .nets) (b .nets) (a .netCount) (z .nets) (nets-limits m (a .nets) (a .netCount) k .each)
-      (λ i h. nets-limits m (b .nets) (b .netCount) l .each i (omega arith)) in
-      ap exact (same ∙ rw e)
-
-  after-alike : (n : ℕ) → n ≤ a .termCount → scoreAfter d p a n ≡ scoreAfter d p b n
-  unfolding scoreAfter
-  after-alike zero h = refl
-  after-alike (suc n) h = rw (after-alike n (omega arith), z .terms n h, amount-alike (termAt (b .terms) n))
-
-  score-alike : scoreOf d p a ≡ scoreOf d p b
-  score-alike = after-alike (a .termCount) (le-refl (a .termCount)) ∙ rw (z .termCount)
-
 -- a module named twice in a net counts once
 once-each : (d : Design) (rows : List ℕ) (a b : Cost) (r r' : Scored) → NamedAlike a b → Scores d rows a r → Scores d rows b r'
     → scoreNumber r ≡ 0 → scoreNumber r' ≡ 0 → valuesOf r ≡ valuesOf r'
 once-each d rows a b r r' z x y e f =
     let g = granted d rows a r x e in let k = granted d rows b r' y f in
-    g .values ∙ score-alike d (fromRows rows) a b z (g .nets) (k .nets) ∙ sym (k .values)
+    g .values ∙ score-alike z (same-refl d) (fromRows rows) (g .nets) (k .nets) ∙ sym (k .values)
 
 -- order 1, of any services that keep their contracts
 pub order-1 : (S : Services) → Keeping S → ScoredWell S

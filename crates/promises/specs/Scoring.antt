@@ -4,7 +4,7 @@ use mathlib.Core.Path.{_≡_}
 use mathlib.Core.Logic.{_⊎_, _↔_}
 use mathlib.Core.Bool.{false}
 use mathlib.Core.List.{List}
-use Prim.Native.Nat.{ℕ, _-_, _≤_, _<_}
+use Prim.Native.Nat.{ℕ, _-_, _≤_}
 use lib.IntN.{ℤ}
 use lib.Ieee.{Float, fin}
 use Rattle.rules.specs.declared.Design.{Design}
@@ -14,7 +14,7 @@ use Rattle.rules.specs.declared.Reply.{Reply}
 use Rattle.rules.specs.declared.Planned.{Planned}
 use Rattle.rules.specs.declared.Scored.{Scored}
 use Rattle.rules.specs.Placement.{area}
-use Rattle.rules.specs.Score.{Names, Cost, exact, noScore, termAt, netAt}
+use Rattle.rules.specs.Score.{Cost, exact, noScore, termAt, NamedAlike}
 use Rattle.rules.specs.Reply.{answer, plannedAnswer, scoredAnswer}
 use Rattle.rules.specs.Service.{Enough, TermsLawful, NetsLawful}
 use Rattle.promises.specs.Services.{Services}
@@ -30,15 +30,6 @@ valuesOf r = scoredAnswer r .values
 -- finite and not negative: m times 2 to the e with the sign plus, so it is not -0.0 either
 pub data NotNegative : Float → Type 0 where
   finite : {m : ℕ} {e : ℤ} → NotNegative (fin false m e)
-
--- two costs with the same terms, whose nets name the same modules, in any order and as often as they like (`Names a b`:
--- every member of a is a member of b)
-pub record NamedAlike (a b : Cost) : Type 0 where
-  pub termCount : a .termCount ≡ b .termCount
-  pub terms : (i : ℕ) → i < a .termCount → termAt (a .terms) i ≡ termAt (b .terms) i
-  pub netCount : a .netCount ≡ b .netCount
-  pub nets : (i : ℕ) → i < a .netCount
-      → Names (netAt (a .nets) i) (netAt (b .nets) i) × Names (netAt (b .nets) i) (netAt (a .nets) i)
 
 -- the last term is an area term
 pub record AreaLast (c : Cost) : Type 0 where

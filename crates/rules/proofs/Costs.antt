@@ -3,7 +3,7 @@
 use mathlib.Core.Path.{_≡_, refl, sym, _∙_, ap}
 use mathlib.Core.Bool.{So}
 use mathlib.Core.List.{List}
-use Prim.Native.Nat.{ℕ, zero, suc, _-_, _≤_, _<_}
+use Prim.Native.Nat.{ℕ, zero, suc, _-_, _≤_}
 use native.Mathlib.Omega.{arith}
 use native.Mathlib.Nat.{le-refl, le-antisymm}
 use lib.Dec.{ltb}
@@ -19,11 +19,11 @@ use Rattle.rules.specs.Placement.{Placement}
 use Rattle.rules.specs.Design.{SameDesign}
 use Rattle.rules.specs.Check.{fromRows}
 use Rattle.rules.specs.Service.{Scores}
-use Rattle.rules.specs.Score.{Names, Cost, termAt, netAt, memberAt, weightOf, lawfulWeight, lawfulTerms, lawfulNet, lawfulNets, areaOf, greatestTo, leastTo, centresOf, spread, halfPerimeter, wireOf, amountOf, scoreAfter, scoreOf, SameNet, SameCost}
+use Rattle.rules.specs.Score.{Names, NamedAlike, Cost, termAt, netAt, memberAt, weightOf, lawfulWeight, lawfulTerms, lawfulNet, lawfulNets, areaOf, greatestTo, leastTo, centresOf, spread, halfPerimeter, wireOf, amountOf, scoreAfter, scoreOf, SameNet, SameCost}
 use Rattle.rules.proofs.Below.{all-below}
 use Rattle.rules.proofs.Same.{same-refl, root-same}
 use Rattle.rules.proofs.Greatest.{greatest-most, least-most, greatest-in, least-in}
-use Rattle.rules.proofs.Scoring.{NetLimits, nets-limits}
+use Rattle.rules.proofs.Scoring.{nets-limits}
 
 module _ (x : Direction) (p : Placement) (a b : Net) (some : 1 ≤ a .count) (names : Names a b) where
   greatest-names : greatestTo (a .count - 1) (centresOf x p a) ≤ greatestTo (b .count - 1) (centresOf x p b)
@@ -44,23 +44,46 @@ spread-same x p a b s t f g =
 pub named-twice : (p : Placement) (a b : Net) → 1 ≤ a .count → 1 ≤ b .count → Names a b → Names b a → halfPerimeter p a ≡ halfPerimeter p b
 named-twice p a b s t f g = rw (spread-same Vertical p a b s t f g, spread-same Horizontal p a b s t f g)
 
--- ---- same costs
+-- ---- costs whose nets name the same modules, of same designs
+module _ {a b : Cost} (z : NamedAlike a b) {d e : Design} (y : SameDesign d e) (p : Placement)
+    (k : So (lawfulNets (d .modules) (a .nets) (a .netCount))) (l : So (lawfulNets (e .modules) (b .nets) (b .netCount))) where
+  wire-alike : (n : ℕ) → n ≤ a .netCount → wireOf p (a .nets) n ≡ wireOf p (b .nets) n
+  unfolding wireOf
+  wire-alike zero h = refl
+  wire-alike (suc n) h =
+      let some = nets-limits (d .modules) (a .nets) (a .netCount) k .each n h .some in
+      let some' = nets-limits (e .modules) (b .nets) (b .netCount) l .each n (rw (z .netCount) at h) .some in
+      let (f, g) = z .nets n h in
+      rw (wire-alike n (omega arith), named-twice p (netAt (a .nets) n) (netAt (b .nets) n) some some' f g)
+
+  amount-alike : (t : Term) → amountOf d p a t ≡ amountOf e p b t
+  unfolding areaOf
+  amount-alike (Area w) = rw (root-same y)
+  amount-alike (Ratio w) = rw (y .modules)
+  amount-alike (Wire w) = rw (wire-alike (a .netCount) (le-refl (a .netCount)), z .netCount)
+
+  after-alike : (n : ℕ) → n ≤ a .termCount → scoreAfter d p a n ≡ scoreAfter e p b n
+  unfolding scoreAfter
+  after-alike zero h = refl
+  after-alike (suc n) h = rw (after-alike n (omega arith), z .terms n h, amount-alike (termAt (b .terms) n))
+
+  pub score-alike : scoreOf d p a ≡ scoreOf e p b
+  score-alike = after-alike (a .termCount) (le-refl (a .termCount)) ∙ rw (z .termCount)
+
+-- ---- same costs: their nets name the same modules
 names-same : {a b : Net} → SameNet a b → Names a b
 names-same z i h = (i, rw (z .count) at h, z .members i h)
 
 net-sym : {a b : Net} → SameNet a b → SameNet b a
 net-sym z = record { count = sym (z .count); members = λ j h. sym (z .members j (rw (z .count) h)) }
 
-perimeter-same : (p : Placement) (a b : Net) → SameNet a b → 1 ≤ a .count → halfPerimeter p a ≡ halfPerimeter p b
-perimeter-same p a b z s = named-twice p a b s (rw (z .count) at s) (names-same z) (names-same (net-sym z))
-
-wire-same : (p : Placement) (m : ℕ) (nets nets' : List Net) (n : ℕ) → ((i : ℕ) → i < n → SameNet (netAt nets i) (netAt nets' i))
-    → ((i : ℕ) → i < n → NetLimits m (netAt nets i)) → wireOf p nets n ≡ wireOf p nets' n
-unfolding wireOf
-wire-same p m nets nets' zero z l = refl
-wire-same p m nets nets' (suc n) z l =
-    let rest = wire-same p m nets nets' n (λ i h. z i (omega arith)) (λ i h. l i (omega arith)) in
-    let h = le-refl (suc n) in rw (rest, perimeter-same p (netAt nets n) (netAt nets' n) (z n h) (l n h .some))
+same-named : {a b : Cost} → SameCost a b → NamedAlike a b
+same-named z = record {
+  termCount = z .termCount;
+  netCount = z .netCount;
+  terms = z .terms;
+  nets = λ i h. let n = z .nets i h in (names-same n, names-same (net-sym n));
+}
 
 net-same : (m : ℕ) (a b : Net) → SameNet a b → lawfulNet m a ≡ lawfulNet m b
 unfolding lawfulNet
@@ -85,22 +108,8 @@ module _ {a b : Cost} (z : SameCost a b) where
         (λ i h. net-same m (netAt (a .nets) i) (netAt (b .nets) i) (z .nets i h)) in
         rw (each, z .netCount, y .modules)
 
-    module _ (p : Placement) (nets : So (lawfulNets (d .modules) (a .nets) (a .netCount))) where
-      amount-same : (t : Term) → amountOf d p a t ≡ amountOf e p b t
-      unfolding areaOf
-      amount-same (Area w) = rw (root-same y)
-      amount-same (Ratio w) = rw (y .modules)
-      amount-same (Wire w) =
-          let l = nets-limits (d .modules) (a .nets) (a .netCount) nets .each in
-          rw (wire-same p (d .modules) (a .nets) (b .nets) (a .netCount) (z .nets) l, z .netCount)
-
-      after-same : (n : ℕ) → n ≤ a .termCount → scoreAfter d p a n ≡ scoreAfter e p b n
-      unfolding scoreAfter
-      after-same zero h = refl
-      after-same (suc n) h = rw (after-same n (omega arith), z .terms n h, amount-same (termAt (b .terms) n))
-
-      pub score-same : scoreOf d p a ≡ scoreOf e p b
-      score-same = after-same (a .termCount) (le-refl (a .termCount)) ∙ rw (z .termCount)
+    pub score-same : (p : Placement) → So (lawfulNets (d .modules) (a .nets) (a .netCount)) → scoreOf d p a ≡ scoreOf e p b
+    score-same p nets = score-alike (same-named z) y p nets (sym nets-same ∙ nets)
 
 -- so an answer that a score may give for one of two same costs it may give for the other
 pub scores-alike : (d : Design) (rows : List ℕ) {a b : Cost} {r : Scored} → SameCost a b → Scores d rows a r → Scores d rows b r

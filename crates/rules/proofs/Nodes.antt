@@ -50,12 +50,19 @@ lawful-iff d = (λ e. to (withinLimits d) refl e, λ t. rw (t .0, valueTest, t .
     to true t e = (t, one (standingOf d (nodes d)) e)
     to false t e = let z : _≡_ {A = ℕ} 0 1 = cc in absurd (omega arith)
 
--- a design that its tests refuse is not lawful, and is refused for one reason
+-- a reply is done or refused, and refused for one reason
+pub not-both : {r : Reply} {e : Refusal} {A : Type 0} → r ≡ Refused e → r ≡ Done → A
+not-both p q = let z : _≡_ {A = ℕ} 0 1 = cc in absurd (omega arith)
+
+pub one-refusal : {r : Reply} {e f : Refusal} → r ≡ Refused e → r ≡ Refused f → e ≡ f
+one-refusal p q = cc
+
+-- so a design that its tests refuse is not lawful
 pub never-both : (d : Design) {e : Refusal} {A : Type 0} → valueTest d ≡ Refused e → LawfulDesign d → A
-never-both d u l = let z : _≡_ {A = ℕ} 0 1 = cc in absurd (omega arith)
+never-both d u l = not-both u l
 
 pub same-refusal : (d : Design) {e f : Refusal} → valueTest d ≡ Refused e → valueTest d ≡ Refused f → e ≡ f
-same-refusal d p q = cc
+same-refusal d p q = one-refusal p q
 
 -- the tree of a lawful design
 pub record LawfulTree (d : Design) : Type 0 where

@@ -44,6 +44,14 @@ pub know : (b : Bool) → So b ⊎ (So b → ⊥)
 know true = inl refl
 know false = inr absurd-so
 
+-- a number is before another or not
+pub before-or-not : (j i : ℕ) → (j < i) ⊎ (i ≤ j)
+before-or-not j i = go (decLe i j)
+  where
+    go : Dec (i ≤ j) → (j < i) ⊎ (i ≤ j)
+    go (yes h) = inr h
+    go (no h) = inl (omega arith)
+
 pub same-test : (a b : Bool) → So a ↔ So b → a ≡ b
 same-test true true e = refl
 same-test true false e = sym (e .0 refl)

@@ -91,7 +91,7 @@ lawfulNets m nets n = leb n mostNets && all n (λ i. lawfulNet m (netAt nets i))
 unfoldable pub areaOf : Design → Placement → ℕ
 areaOf d p = area (box (root d) p)
 
--- Rule 29: "Ratio adds w/h and then h/w for each module in module order, from zero." After the modules before module m:
+-- Rule 29: "Ratio adds w/h and then h/w for each module in module order, from zero": with one module more, and after the first k
 abbrev pub ratioMore : Float → Float → Float → Float
 ratioMore sum w h = plus (plus sum (over w h)) (over h w)
 
@@ -164,3 +164,11 @@ pub record SameCost (a b : Cost) : Type 0 where
   pub netCount : a .netCount ≡ b .netCount
   pub terms : (i : ℕ) → i < a .termCount → termAt (a .terms) i ≡ termAt (b .terms) i
   pub nets : (i : ℕ) → i < a .netCount → SameNet (netAt (a .nets) i) (netAt (b .nets) i)
+
+-- two costs with the same terms, whose nets name the same modules, in any order and as often as they like
+pub record NamedAlike (a b : Cost) : Type 0 where
+  pub termCount : a .termCount ≡ b .termCount
+  pub netCount : a .netCount ≡ b .netCount
+  pub terms : (i : ℕ) → i < a .termCount → termAt (a .terms) i ≡ termAt (b .terms) i
+  pub nets : (i : ℕ) → i < a .netCount
+      → Names (netAt (a .nets) i) (netAt (b .nets) i) × Names (netAt (b .nets) i) (netAt (a .nets) i)

@@ -15,7 +15,7 @@ use Rattle.rules.proofs.Greatest.{furthest-is}
 use Rattle.rows.specs.Row.{Bytes}
 use Rattle.extents.specs.declared.Extent.{Extent}
 use Rattle.extents.specs.Sides.{extent, extentOf, together}
-use Rattle.scoring.specs.Amounts.{extentTo, modulesTo, pointOf, membersTo, mostSide, Near}
+use Rattle.scoring.specs.Amounts.{extentTo, modulesTo, pointOf, membersTo, mostCentre, Near}
 
 -- small extents, and small ones together
 pub near-rectangle : (r : Rectangle) → Bytes r → Near (extentOf r)
@@ -64,7 +64,7 @@ pub area-is : (d : Design) → LawfulDesign d → (p : Placement) (e : Extent) �
 unfolding areaOf
 area-is d l p e q = rw (q, extent-sides (d .modules - 1) (λ k. extentOf (p k)), furthest-is d l right p, furthest-is d l top p)
 
-pub area-near : (e : Extent) → Near e → e .far .x .0 * e .far .y .0 ≤ mostSide * mostSide
+pub area-near : (e : Extent) → Near e → e .far .x .0 * e .far .y .0 ≤ mostCentre * mostCentre
 area-near e n = mul-le-mul (n .right) (n .top)
 
 pub perimeter-is : (p : Placement) (net : Net) (e : Extent) → e ≡ membersTo (net .count - 1) p net

@@ -34,12 +34,12 @@ abbrev pub membersTo : ℕ → Placement → Net → Extent
 membersTo n p net = extentTo n (λ j. pointOf (p (memberAt net j)))
 
 -- a side or a doubled centre of a rectangle from four bytes is at most so much
-abbrev pub mostSide : ℕ
-mostSide = 765
+abbrev pub mostCentre : ℕ
+mostCentre = 765
 
 pub record Near (e : Extent) : Type 0 where
-  pub right : e .far .x .0 ≤ mostSide
-  pub top : e .far .y .0 ≤ mostSide
+  pub right : e .far .x .0 ≤ mostCentre
+  pub top : e .far .y .0 ≤ mostCentre
   pub across : e .low .x .0 ≤ e .far .x .0
   pub up : e .low .y .0 ≤ e .far .y .0
 

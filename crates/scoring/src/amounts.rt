@@ -20,7 +20,7 @@ ghost use Rattle.rules.specs.Check.{fromRows};
 ghost use Rattle.rules.specs.Score.{exact, areaOf, ratioMore, ratioOf, halfPerimeter, wireOf, lawfulNet, lawfulNets, mostNets};
 ghost use Rattle.rows.specs.Row.{Bytes};
 ghost use Rattle.extents.specs.Sides.{extentOf};
-ghost use Rattle.scoring.specs.Amounts.{Near, mostSide, pointOf, modulesTo, membersTo, Countable, amountsOf};
+ghost use Rattle.scoring.specs.Amounts.{Near, mostCentre, pointOf, modulesTo, membersTo, Countable, amountsOf};
 
 // What each kind of term counts, without its weight.
 pub struct Amounts {
@@ -61,7 +61,7 @@ fn modules_extent(rows: &[u8], modules: usize) -> Extent
 // The area of the box from the chip's lower left corner.
 fn area_of(design: Design, rows: &[u8]) -> usize
     requires { ⌜ LawfulDesign design × (4 * design .modules ≤ length (now rows)) ⌝ }
-    ensures { λ r. ⌜ (r ≡ areaOf design (fromRows (now (rows .entry)))) × (r ≤ mostSide * mostSide) ⌝ }
+    ensures { λ r. ⌜ (r ≡ areaOf design (fromRows (now (rows .entry)))) × (r ≤ mostCentre * mostCentre) ⌝ }
 {
     let extent = modules_extent(rows, design.modules);
     extent.far.x.0 * extent.far.y.0
@@ -129,7 +129,7 @@ fn members_extent(rows: &[u8], modules: usize, net: Net) -> Extent
 // The half perimeter of the box round them.
 fn half_perimeter(rows: &[u8], modules: usize, net: Net) -> usize
     requires { ⌜ So (lawfulNet modules net) × (4 * modules ≤ length (now rows)) ⌝ }
-    ensures { λ r. ⌜ (r ≡ halfPerimeter (fromRows (now (rows .entry))) net) × (r ≤ 2 * mostSide) ⌝ }
+    ensures { λ r. ⌜ (r ≡ halfPerimeter (fromRows (now (rows .entry))) net) × (r ≤ 2 * mostCentre) ⌝ }
 {
     let extent = members_extent(rows, modules, net);
     let across = extent.far.x.0 - extent.low.x.0;
@@ -140,7 +140,7 @@ fn half_perimeter(rows: &[u8], modules: usize, net: Net) -> usize
 // The sum over all nets.
 fn wire_of(rows: &[u8], modules: usize, nets: [Net; MOST_NETS], count: usize) -> usize
     requires { ⌜ So (lawfulNets modules nets count) × (4 * modules ≤ length (now rows)) ⌝ }
-    ensures { λ r. ⌜ (r ≡ wireOf (fromRows (now (rows .entry))) nets count) × (r ≤ mostNets * (2 * mostSide)) ⌝ }
+    ensures { λ r. ⌜ (r ≡ wireOf (fromRows (now (rows .entry))) nets count) × (r ≤ mostNets * (2 * mostCentre)) ⌝ }
 {
     let mut sum = 0;
     for i in 0..count {

@@ -7,7 +7,7 @@ use borrow.Author.Needs.{needs}
 use Rattle.rules.specs.Check.{fromRows}
 use Rattle.rules.specs.Score.{mostNets, wireOf}
 use Rattle.rules.proofs.Scoring.{nets-limits}
-use Rattle.scoring.specs.Amounts.{mostSide}
+use Rattle.scoring.specs.Amounts.{mostCentre}
 use Rattle.scoring.proofs.Listed.{net-lawful}
 use Rattle.scoring.proofs.Sums.{no-wire, wire-next}
 use Rattle.scoring.proofs.amounts.wire_of.Statement.{statement}
@@ -15,7 +15,7 @@ use Rattle.scoring.proofs.amounts.wire_of.Tie as tie
 
 abbrev Inv-loop : tie.InvT-loop
 Inv-loop rows modules count nets sum₀ i₀ sum i =
-    (i ≤ count) × (count ≤ mostNets) × (sum ≡ wireOf (fromRows rows) nets i) × (sum ≤ i * (2 * mostSide))
+    (i ≤ count) × (count ≤ mostNets) × (sum ≡ wireOf (fromRows rows) nets i) × (sum ≤ i * (2 * mostCentre))
 
 abbrev μ-loop : tie.MeasureT-loop
 μ-loop rows modules count nets sum₀ i₀ sum i = count - i
