@@ -13,6 +13,7 @@ pub mod Fitting
 pub mod Suiting
 pub mod Placing
 pub mod Listing
+pub mod Walking
 pub mod Pairing
 pub mod Paper
 pub mod Choosing

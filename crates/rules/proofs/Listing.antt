@@ -26,15 +26,15 @@ pub same-shape : (s o : Shape) → s .w .0 ≡ o .w .0 → s .h .0 ≡ o .h .0 �
 same-shape s o ew eh = λ i. shape (ew i) (eh i)
 
 module _ {W H : ℕ} {F : Test} {a c : ℕ} (G : Rising W H F a c) where
-  lowest-passes : (b : ℕ) → lowest H F a c b ≤ H → So (F a c b (lowest H F a c b))
+  pub lowest-passes : (b : ℕ) → lowest H F a c b ≤ H → So (F a c b (lowest H F a c b))
   unfolding lowest
   lowest-passes b k = let h = least-is (λ d. F a c b d) (suc H - c) c in let f = h .from in h .passes (omega arith)
 
-  lowest-from : (b : ℕ) → (c ≤ lowest H F a c b) × (lowest H F a c b ≤ c + (suc H - c))
+  pub lowest-from : (b : ℕ) → (c ≤ lowest H F a c b) × (lowest H F a c b ≤ c + (suc H - c))
   unfolding lowest
   lowest-from b = let h = least-is (λ d. F a c b d) (suc H - c) c in (h .from, h .within)
 
-  lowest-least : (b d : ℕ) → So (F a c b d) → lowest H F a c b ≤ d
+  pub lowest-least : (b d : ℕ) → So (F a c b d) → lowest H F a c b ≤ d
   unfolding lowest
   lowest-least b d t = let s = G .solid b d t in least-is (λ d. F a c b d) (suc H - c) c .least d (omega arith) (omega arith) t
 

@@ -5,6 +5,7 @@ pub mod Tree
 pub mod Placement
 pub mod Shape
 pub mod Slot
+pub mod Walk
 pub mod Choice
 pub mod Design
 pub mod Edit
