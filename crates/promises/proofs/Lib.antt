@@ -14,3 +14,4 @@ pub mod RefuteAnswers
 pub mod RefutePlans
 pub mod RefuteEdits
 pub mod RefuteScores
+pub mod RefuteWalks

@@ -68,7 +68,7 @@ unfolding D padded stands has joined added standing columnOf coversBlock heldBet
 no-multiplier z = absurd-so (realizes-fits (design-decides D) (nodeAt D 1) (rectangle 0 0 2 3) .0 z)
 
 -- a good list is the list of the node's shapes, so the root's bytes are those of the bench table
-good-bytes : (d : Design) (t : ℕ) (c : Corner) (bytes : ℕ → ℕ) → GoodList d t c bytes
+pub good-bytes : (d : Design) (t : ℕ) (c : Corner) (bytes : ℕ → ℕ) → GoodList d t c bytes
     → IsListOf (widthOf d) bytes (ShapeAt (widthOf d) (heightOf d) (ListsOf d) (nodeAt d t) c)
 good-bytes d t c bytes g s = (
   λ z. record { is = g .shapes s z; alone = λ o y e. g .undominated s o z y e },
