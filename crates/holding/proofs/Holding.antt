@@ -15,7 +15,7 @@ use Rattle.rules.specs.Design.{mostColumns, mostRows, noNeed, lawfulChip}
 use Rattle.rules.proofs.Test.{onlyIf, blocksBetween, blocksOf}
 use Rattle.rules.proofs.Limits.{chip-limits}
 use Rattle.rules.proofs.Blocks.{columnsOf, columns-most, held-is}
-use Rattle.holding.specs.Held.{EachUpTo, withColumn}
+use Rattle.holding.specs.Held.{EachUpTo, columnIn, withColumn}
 
 -- what n columns from a on hold of each kind
 abbrev pub heldIn : Chip → Need → ℕ → ℕ → Need
@@ -24,10 +24,6 @@ heldIn C column a n = record {
   rams = columnsOf C 1 a n * column .rams;
   multipliers = columnsOf C 2 a n * column .multipliers;
 }
-
--- what a column of each kind holds in a rectangle's rows
-abbrev pub columnIn : Rectangle → ℕ → Need
-columnIn r blocks = record { clbs = r .shape .h .0; rams = blocks; multipliers = blocks }
 
 -- the steps of the count
 module _ (C : Chip) (column : Need) (a : ℕ) where
@@ -55,15 +51,15 @@ module _ (C : Chip) (column : Need) (a : ℕ) where
       rw (q, e) (λ i. record { clbs = each 0 (column .clbs) i; rams = each 1 (column .rams) i; multipliers = each 2 (column .multipliers) i })
 
   pub few-held : (held : Need) (n : ℕ) → n ≤ mostColumns → EachUpTo mostRows column → held ≡ heldIn C column a n
-      → EachUpTo (mostColumns * mostRows) held × EachUpTo mostRows column
-  few-held held n h f e = (rw e (record { clbs = each 0 (f .clbs); rams = each 1 (f .rams); multipliers = each 2 (f .multipliers) }), f)
+      → EachUpTo (mostColumns * mostRows) held
+  few-held held n h f e = rw e (record { clbs = each 0 (f .clbs); rams = each 1 (f .rams); multipliers = each 2 (f .multipliers) })
     where
       each : (k : ℕ) {v : ℕ} → v ≤ mostRows → columnsOf C k a n * v ≤ mostColumns * mostRows
       each k l = let g : columnsOf C k a n ≤ mostColumns = omega (arith, columns-most C k a n) in mul-le-mul g l
 
 -- a rectangle on the chip holds what its columns hold
 module _ (C : Chip) (lawful : So (lawfulChip C)) (r : Rectangle) (on : OnChip (C .width .0) (C .height .0) r) where
-  holds-columns : holds C r ≡ heldIn C (columnIn r (blocksBetween (C .block .0) (bottom r) (top r))) (left r) (r .shape .w .0)
+  pub holds-columns : holds C r ≡ heldIn C (columnIn (r .shape .h .0) (blocksBetween (C .block .0) (bottom r) (top r))) (left r) (r .shape .w .0)
   unfolding holds blocksOf
   holds-columns = let a = rw e at (each 0) in λ i. record { clbs = a i; rams = each 1 i; multipliers = each 2 i }
     where
@@ -75,5 +71,5 @@ module _ (C : Chip) (lawful : So (lawfulChip C)) (r : Rectangle) (on : OnChip (C
       e = omega arith
 
   pub all-held : (blocks x : ℕ) (held : Need) → blocks ≡ blocksBetween (C .block .0) (bottom r) (top r) → x ≡ right r
-      → held ≡ heldIn C (columnIn r blocks) (left r) (x - left r) → held ≡ holds C r
+      → held ≡ heldIn C (columnIn (r .shape .h .0) blocks) (left r) (x - left r) → held ≡ holds C r
   all-held blocks x held e q h = let w : x - left r ≡ r .shape .w .0 = omega arith in h ∙ rw (w, e) (sym holds-columns)

@@ -10,6 +10,10 @@ pub record EachUpTo (most : ℕ) (n : Need) : Type 0 where
   pub rams : n .rams ≤ most
   pub multipliers : n .multipliers ≤ most
 
+-- what a column of each kind holds in so many rows, in which so many of its blocks stand whole
+abbrev pub columnIn : ℕ → ℕ → Need
+columnIn rows blocks = record { clbs = rows; rams = blocks; multipliers = blocks }
+
 -- one column more, which adds what it holds of its own kind
 unfoldable pub withColumn : Need → ℕ → Need → Need
 withColumn held kind column = record {

@@ -8,7 +8,7 @@ ghost use mathlib.Core.Path.{_≡_};
 ghost use mathlib.Core.Bool.{So};
 ghost use Prim.Native.Nat.{_*_, _≤_, _<_};
 ghost use Rattle.rules.specs.Chip.{OnChip, holds};
-ghost use Rattle.rules.specs.Design.{mostColumns, mostRows, widthOf, heightOf, lawfulChip, LawfulDesign};
+ghost use Rattle.rules.specs.Design.{mostColumns, mostRows, lastKind, widthOf, heightOf, lawfulChip, LawfulDesign};
 ghost use Rattle.rules.specs.Check.{isAtMost, isSuited};
 ghost use Rattle.rules.proofs.Test.{blocksBetween};
 ghost use Rattle.holding.specs.Held.{EachUpTo, withColumn};
@@ -30,8 +30,8 @@ pub fn blocks_between(block: Rows, low: Rows, far: Rows) -> usize
 }
 
 // What is held with one column more, which adds what it holds of its own kind.
-fn with_column(held: Need, kind: u8, column: Need) -> Need
-    requires { ⌜ EachUpTo (mostColumns * mostRows) held × EachUpTo mostRows column ⌝ }
+pub fn with_column(held: Need, kind: u8, column: Need) -> Need
+    requires { ⌜ (kind ≤ lastKind) × EachUpTo (mostColumns * mostRows) held × EachUpTo mostRows column ⌝ }
     ensures { λ r. ⌜ r ≡ withColumn held kind column ⌝ }
 {
     let clbs = held.clbs;
@@ -48,12 +48,12 @@ fn with_column(held: Need, kind: u8, column: Need) -> Need
             rams: rams + column.rams,
             multipliers,
         },
-        2 => Need {
+        // kind 2, the last one
+        _ => Need {
             clbs,
             rams,
             multipliers: multipliers + column.multipliers,
         },
-        _ => held,
     }
 }
 
@@ -82,7 +82,7 @@ fn held(chip: Chip, r: Rectangle) -> Need
 }
 
 // What is held is at least the need, of each kind.
-fn is_at_most(need: Need, held: Need) -> bool
+pub fn is_at_most(need: Need, held: Need) -> bool
     ensures { λ r. ⌜ r ≡ isAtMost need held ⌝ }
 {
     if held.clbs < need.clbs {

@@ -1,6 +1,6 @@
 -- Laws of a leaf's list.
-pub mod Limiting
-pub mod Counting
-pub mod Lowering
-pub mod Trying
+pub mod Edges
+pub mod Carrying
+pub mod Descending
+pub mod Widths
 pub mod Covering

@@ -1,2 +1,4 @@
--- What listing a leaf asks for, and what its steps find.
+-- What listing a leaf asks for, what its walk carries, and how it steps down.
 pub mod Leaf
+pub mod Room
+pub mod Step

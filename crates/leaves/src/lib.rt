@@ -1,129 +1,87 @@
-// A leaf's slot at one corner, listed from its need.
-use holding::blocks_between;
+// A leaf's slot at one corner, listed from its need by the walk along the stair.
+mod room;
+
+use holding::is_at_most;
+use room::Room;
+use room::lower;
+use room::no_columns;
+use room::wider;
 use rules::Chip;
 use rules::Columns;
 use rules::Corner;
-use rules::MOST_COLUMNS;
 use rules::Need;
 use rules::Rows;
 use slots::Board;
+use slots::slot_start;
 ghost use mathlib.Core.Path.{_≡_};
-ghost use Prim.Native.Nat.{_-_, _*_, _≤_, _<_};
-ghost use lib.Dec.{leb};
-ghost use Rattle.rules.specs.Design.{mostColumns, mostRows};
-ghost use Rattle.leaves.specs.Leaf.{chipOn, CornerReady, SlotReady, LeafReady, SlotListed, RowListed, NodeListed};
-ghost use Rattle.leaves.specs.Leaf.{FewerThan, Within, suitsIn, StopsAt, oneMore, heightTo, Trials, listedOf};
+ghost use Prim.Native.Nat.{_+_, _≤_, _<_};
+ghost use lib.ListN.{length};
+ghost use Rattle.slots.specs.Lent.{mostWork};
+ghost use Rattle.slots.specs.Written.{Filled};
+ghost use Rattle.leaves.specs.Step.{Steppable, Stepped};
+ghost use Rattle.leaves.specs.Leaf.{chipOn, none, SlotReady, WalkReady, LeafReady, SlotListed, RowListed, NodeListed};
 
-// How many columns of each kind lie side by side.
-struct ByKind {
-    clbs: Columns,
-    rams: Columns,
-    multipliers: Columns,
-}
-
-// So many columns with so many blocks in each hold what is needed of their kind.
-fn enough(columns: Columns, blocks: usize, needed: usize) -> bool
-    requires { ⌜ (columns .0 ≤ mostColumns) × (blocks ≤ mostRows) ⌝ }
-    ensures { λ r. ⌜ r ≡ leb needed (columns .0 * blocks) ⌝ }
+// Clears the bytes of a slot.
+fn clear(work: &mut [u8], start: usize, width: Columns)
+    requires { ⌜ (start + width .0 ≤ length (now work)) × (start + width .0 ≤ mostWork) ⌝ }
+    ensures { λ _. ⌜ Filled (now (work .entry)) start (width .0) none (now (work .exit)) ⌝ }
 {
-    needed <= columns.0 * blocks
-}
-
-// So many columns of each kind hold the need between two rows.
-fn suits_in(columns: ByKind, need: Need, block: Rows, low: Rows, far: Rows) -> bool
-    requires { ⌜ (low .0 ≤ far .0) × Within columns (block .0) (far .0) ⌝ }
-    ensures { λ r. ⌜ r ≡ suitsIn columns need (block .0) (low .0) (far .0) ⌝ }
-{
-    if !enough(columns.clbs, far.0 - low.0, need.clbs) {
-        return false;
+    for j in 0..width.0 {
+        work[start + j] = 0;
     }
-    let blocks = blocks_between(block, low, far);
-    if !enough(columns.rams, blocks, need.rams) {
-        return false;
-    }
-    enough(columns.multipliers, blocks, need.multipliers)
 }
 
-// The least top side that suits, going down from the one that suited fewer columns.
-fn least_top(columns: ByKind, need: Need, block: Rows, low: Rows, from: Rows) -> Rows
-    requires { ⌜ (low .0 < from .0) × Within columns (block .0) (from .0 - 1) ⌝ }
-    ensures { λ r. ⌜ StopsAt (suitsIn columns need (block .0) (low .0)) (low .0) (from .0) (r .0) ⌝ }
+// What stepping down leaves: a room that no longer suits, or no rows.
+enum Step {
+    At(Room),
+    UsedUp,
+}
+
+// Steps down while the room still suits, and keeps the last height that suited.
+fn step_down(work: &mut [u8], place: usize, from: Room, need: Need, block: Rows) -> Step
+    requires { ⌜ Steppable (block .0) place from (now work) ⌝ }
+    ensures { λ r. ⌜ Stepped need (block .0) place from (now (work .entry)) (now (work .exit)) r ⌝ }
 {
-    let mut top = from;
-    while low.0 + 1 < top.0 {
-        let next = Rows(top.0 - 1);
-        if suits_in(columns, need, block, low, next) {
-            top = next;
-        } else {
-            return top;
+    let mut room = from;
+    while is_at_most(need, room.held) {
+        work[place] = room.rows.0 as u8;
+        room = lower(room, block);
+        if room.rows.0 == 0 {
+            return Step::UsedUp;
         }
     }
-    top
+    Step::At(room)
 }
 
-// The counts with one column more.
-fn one_more(columns: ByKind, kind: u8) -> ByKind
-    requires { ⌜ FewerThan mostColumns columns ⌝ }
-    ensures { λ r. ⌜ r ≡ oneMore columns kind ⌝ }
-{
-    ByKind {
-        clbs: Columns(columns.clbs.0 + (kind == 0) as usize),
-        rams: Columns(columns.rams.0 + (kind == 1) as usize),
-        multipliers: Columns(columns.multipliers.0 + (kind == 2) as usize),
-    }
-}
-
-// The height up to a top side, or 0 where that is above the chip.
-fn height_to(top: Rows, low: Rows, height: Rows) -> u8
-    requires { ⌜ (low .0 ≤ top .0) × (height .0 ≤ mostRows) ⌝ }
-    ensures { λ r. ⌜ r ≡ heightTo (top .0) (low .0) (height .0) ⌝ }
-{
-    if top.0 <= height.0 {
-        (top.0 - low.0) as u8
-    } else {
-        0
-    }
-}
-
-// The trial heights: for each width the least height that suits, or 0 where none does.
-fn trial_heights(
+// The walk along the stair, in a slot that is cleared: from one column at full height it steps down while the room
+// still suits, and otherwise adds a column, until columns or rows are used up.
+fn walk(
+    work: &mut [u8],
     board: Board,
     block: Rows,
     kinds: &[u8],
     need: Need,
+    t: usize,
     at: Corner,
-) -> [u8; MOST_COLUMNS]
-    requires { ⌜ CornerReady (chipOn board block (now kinds)) at ⌝ }
-    ensures { λ r. ⌜ Trials (chipOn board block (now (kinds .entry))) need at r ⌝ }
+    start: usize,
+)
+    requires { ⌜ WalkReady board (chipOn board block (now kinds)) t at start (now work) ⌝ }
+    ensures { λ _. ⌜ SlotListed board block (now (kinds .entry)) need t at (now (work .entry)) (now (work .exit)) ⌝ }
 {
-    let x = at.x.0;
-    let n = board.width.0 - x;
-    let mut heights = [0u8; MOST_COLUMNS];
-    let mut columns = ByKind {
-        clbs: Columns(0),
-        rams: Columns(0),
-        multipliers: Columns(0),
-    };
-    let mut top = Rows(board.height.0 + 1);
-    for j in 0..n {
-        columns = one_more(columns, kinds[x + j]);
-        top = least_top(columns, need, block, at.y, top);
-        heights[j] = height_to(top, at.y, board.height);
+    let mut room = no_columns(board, block, at.y);
+    let mut j = 0;
+    while at.x.0 + j < board.width.0 {
+        let x = at.x.0 + j;
+        match step_down(work, start + j, wider(room, kinds[x]), need, block) {
+            Step::At(left) => {
+                room = left;
+            }
+            Step::UsedUp => {
+                return;
+            }
+        }
+        j += 1;
     }
-    heights
-}
-
-// A trial height that is listed: it is less than the one before, or the first one.
-fn listed(height: u8, before: u8) -> u8
-    ensures { λ r. ⌜ r ≡ listedOf height before ⌝ }
-{
-    if height == 0 {
-        return 0;
-    }
-    if before == 0 {
-        return height;
-    }
-    if height < before { height } else { 0 }
 }
 
 // Lists the shapes of a leaf at a corner, in the slot of node t.
@@ -139,14 +97,9 @@ fn leaf_slot(
     requires { ⌜ SlotReady board (chipOn board block (now kinds)) t at (now work) ⌝ }
     ensures { λ _. ⌜ SlotListed board block (now (kinds .entry)) need t at (now (work .entry)) (now (work .exit)) ⌝ }
 {
-    let heights = trial_heights(board, block, kinds, need, at);
-    let start = slots::slot_start(board, t, at);
-    let mut before = 0;
-    for j in 0..board.width.0 {
-        let height = heights[j];
-        work[start + j] = listed(height, before);
-        before = height;
-    }
+    let start = slot_start(board, t, at);
+    clear(work, start, board.width);
+    walk(work, board, block, kinds, need, t, at, start);
 }
 
 // Lists the corners of a leaf in one row.

@@ -32,7 +32,7 @@ element-copy-out-with-column c = omega (arith, chip-limits _ (c .before .before 
 with-column-requires : tie.Need-with-column-requires Inv-loop μ-loop
 with-column-requires c κs =
     let l = chip-limits _ (c .before .before .before .before .before .before .before .pre .0) in
-    few-held _ _ _ _ _ (omega arith) (omega arith) (c .before .before .loop .inv .2)
+    (l .kinds _ (omega arith), few-held _ _ _ _ _ (omega arith) (omega arith) (c .before .before .loop .inv .2), omega arith)
 
 add-x : tie.Need-add-x Inv-loop μ-loop
 add-x c = omega arith

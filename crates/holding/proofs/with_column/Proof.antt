@@ -1,7 +1,8 @@
--- `holding::with_column` meets its contract: of the three kinds one at most is the column's.
+-- `holding::with_column` meets its contract: the column has one of the three kinds.
 -- Assumes nothing.
+use mathlib.Core.Path.{_≡_}
+use native.Mathlib.Omega.{arith}
 use native.Mathlib.Nat.{add-zero}
-use borrow.Author.Tests.{ne-eqb}
 use borrow.Author.Needs.{needs}
 use Rattle.holding.specs.Held.{withColumn}
 use Rattle.holding.proofs.with_column.Statement.{statement}
@@ -26,11 +27,9 @@ returns-2 c = simp (c .before .match .keys2, add-zero)
 
 returns-3 : tie.Need-returns-3
 unfolding withColumn
-returns-3 c = simp (c .before .match .keys3, add-zero)
-
-returns-4 : tie.Need-returns-4
-unfolding withColumn
-returns-4 c = simp (ne-eqb _ _ (c .match .rest .0 .0 .1), ne-eqb _ _ (c .match .rest .0 .1), ne-eqb _ _ (c .match .rest .1), add-zero)
+returns-3 c =
+    let w = c .before in let e : w .before .args .kind ≡ 2 = omega (arith, w .before .pre .0, w .match .rest .0 .1, w .match .rest .1) in
+    simp (e, add-zero)
 
 pub with-column-spec : {M : Type 1} → statement M
-with-column-spec = tie.close (tie.spec add-t8 add-t9 add-t10 returns returns-2 returns-3 returns-4)
+with-column-spec = tie.close (tie.spec add-t8 add-t9 add-t10 returns returns-2 returns-3)
