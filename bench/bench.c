@@ -177,7 +177,7 @@ static void measure_list(const char *name, const struct design *d)
     struct counted leaf = leaves(name, d), all = listing(name, d), cut = less(all, leaf);
     line(name, "list; C by all pairs", all.proved, all.by_pairs, 1);
     line(name, "list; C by rows", all.proved, all.by_rows, 0);
-    line(name, "  its leaves", leaf.proved, leaf.by_rows, 0);
+    line(name, "  its leaves", leaf.proved, leaf.by_rows, 1.1);
     line(name, "  its cuts; C by all pairs", cut.proved, cut.by_pairs, 0);
     line(name, "  its cuts; C by rows", cut.proved, cut.by_rows, 2);
 }

@@ -226,19 +226,46 @@ static int suits(const int columns[3], struct need n, int block, int low, int fa
     return columns[1] * blocks >= n.rams && columns[2] * blocks >= n.multipliers;
 }
 
-// For each width the least height that suits, tried downward from the one before; it is listed where it is less.
-static void list_leaf_corner(const struct design *d, struct need n, int x, int y, byte *to)
+// The walk along the stair (order 2 of 02): from one column at full height it steps down while the rectangle still suits, and otherwise adds a
+// column, until columns or rows are used up. What the rectangle holds beyond the need is carried from step to step; it suits if none of that is
+// negative. The last of its whole blocks ends at the edge, in rows from the corner. Not inlined, and in variables of its own: so gcc keeps all
+// of it in registers, and does not ask after each byte stored whether the design has changed.
+__attribute__((noinline)) static void list_leaf_corner(const struct design *d, struct need n, int x, int y, byte *to)
 {
-    int columns[3] = {0};
-    int top = d->height + 1;
-    for (int j = 0; j < d->width - x; j++) {
-        int before = top;
-        columns[d->kinds[x + j]]++;
-        while (top - 1 > y && suits(columns, n, d->block, y, top - 1))
-            top--;
-        to[j] = top < before ? top - y : 0;
+    const byte *kinds = d->kinds + x;
+    const int columns = d->width - x, block = d->block;
+    int clb_columns = 0, ram_columns = 0, multiplier_columns = 0;
+    int clbs = -n.clbs, rams = -n.rams, multipliers = -n.multipliers;
+    int rows = d->height - y, blocks = whole_blocks(block, y, d->height);
+    int edge = blocks ? d->height / block * block - y : 0;
+    memset(to, 0, d->width);
+    for (int j = 0; j < columns; j++) {
+        switch (kinds[j]) {
+        case 0:
+            clb_columns++;
+            clbs += rows;
+            break;
+        case 1:
+            ram_columns++;
+            rams += blocks;
+            break;
+        default:
+            multiplier_columns++;
+            multipliers += blocks;
+        }
+        while ((clbs | rams | multipliers) >= 0) {
+            to[j] = rows;
+            clbs -= clb_columns;
+            if (rows == edge) {
+                rams -= ram_columns;
+                multipliers -= multiplier_columns;
+                blocks--;
+                edge = blocks ? edge - block : 0;
+            }
+            if (--rows == 0)
+                return;
+        }
     }
-    memset(to + d->width - x, 0, x);
 }
 
 static void list_leaf(const struct design *d, byte *work, int t, struct need n)

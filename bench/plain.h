@@ -1,5 +1,5 @@
-// A planner in plain C, written from document 01 and order 1 of 02, for the bench to compare with. Nothing in it is
-// proved.
+// A planner in plain C, written from document 01 and orders 1 and 2 of 02, for the bench to compare with. Nothing in it
+// is proved.
 #include <stddef.h>
 
 enum { MOST_TERMS = 8, MOST_NETS = 32, MOST_NAMES = 16, MOST_WEIGHT = 1000000 };
