@@ -2,6 +2,7 @@
 // lent to them is compared first; where it differs there is no ratio. The one argument is the file where the plugin leaves its counts.
 #include "designs.h"
 #include "mark.h"
+#include "out.h"
 #include "../include/cellweaver.h"
 #include <stdio.h>
 #include <stdlib.h>
@@ -290,5 +291,5 @@ int main(int arguments, char **argument)
     measure_score("deep", &DEEP);
     measure_bytes("levels", &LEVELS);
     measure_bytes("D", &D);
-    return 0;
+    return unwritten();
 }

@@ -1,8 +1,8 @@
 // The stack that one call of each service takes, on the two largest designs. A call runs on a stack of its own that is painted before; the bytes
 // from its top down to the last one that lost its paint are counted, less those of a call that does nothing.
 #include "designs.h"
+#include "out.h"
 #include "../include/cellweaver.h"
-#include <stdio.h>
 #include <stdlib.h>
 #include <string.h>
 #include <ucontext.h>
@@ -109,4 +109,5 @@ int main(void)
         }
         printf("%-12s %8zu\n", JOBS[j].name, most);
     }
+    return unwritten();
 }
