@@ -16,9 +16,11 @@ pub mod Listing
 pub mod Walking
 pub mod Pairing
 pub mod Paper
+pub mod Scanning
 pub mod Choosing
 pub mod Descending
 pub mod Agreeing
+pub mod Keeping
 pub mod Planning
 pub mod Floorplans
 pub mod Checking
@@ -35,6 +37,7 @@ pub mod Changing
 pub mod OneChange
 pub mod Relisting
 pub mod Working
+pub mod BothWays
 pub mod Stairs
 pub mod Same
 pub mod Carrying

@@ -27,7 +27,7 @@ abbrev pub at : Corner → Shape → Rectangle
 at c s = record { corner = c; shape = s }
 
 -- where P lies in Q, and below each of Q stands one of P, both have the same undominated shapes
-undominated-below : {P Q : Shape → Type 0} → ((s : Shape) → P s → Q s) → ((s : Shape) → Q s → (o : Shape) × P o × Dominates o s)
+pub undominated-below : {P Q : Shape → Type 0} → ((s : Shape) → P s → Q s) → ((s : Shape) → Q s → (o : Shape) × P o × Dominates o s)
     → (s : Shape) → Undominated P s ↔ Undominated Q s
 undominated-below {P} {Q} f g s = (
   λ u. record {

@@ -6,6 +6,7 @@ use mathlib.Core.Logic.{inl, inr, ⊎-elim, _↔_}
 use mathlib.Core.List.{List}
 use mathlib.Core.Bool.{So}
 use Prim.Native.Nat.{ℕ, _≤_, _<_}
+use native.Mathlib.Omega.{arith}
 use Rattle.rules.specs.declared.Corner.{Corner}
 use Rattle.rules.specs.declared.Shape.{Shape}
 use Rattle.rules.specs.declared.Rectangle.{Rectangle}
@@ -13,13 +14,13 @@ use Rattle.rules.specs.declared.Direction.{Direction}
 use Rattle.rules.specs.declared.Design.{Design}
 use Rattle.rules.specs.declared.Edit.{Edit}
 use Rattle.rules.specs.Tree.{Tree, leaf, cut, has, spans, position}
-use Rattle.rules.specs.Shape.{Realizes, ShapeAt}
+use Rattle.rules.specs.Shape.{Realizes, ShapeAt, Undominated, Listed}
 use Rattle.rules.specs.Slot.{slot, CornerOn, IsListOf, FullLists, ListsAt}
 use Rattle.rules.specs.Edit.{namesPlace, changed, changedNode, Relists, Relisted, EditedLists}
-use Rattle.rules.specs.Design.{LawfulDesign, slotRows, HasSlots, OwnLists, slotsOf, ListsOf, nodeAt, nodes, root, widthOf, heightOf}
+use Rattle.rules.specs.Design.{LawfulDesign, slotRows, HasSlots, OwnLists, slotsOf, ListsOf, tokenAt, nodeAt, nodes, root, widthOf, heightOf}
 use Rattle.rules.proofs.Test.{Test}
 use Rattle.rules.proofs.Searching.{know, or-iff, eqb-iff}
-use Rattle.rules.proofs.Standing.{Part, whole, in-left, in-right, node-position}
+use Rattle.rules.proofs.Standing.{Part, whole, in-left, in-right, Node, is-leaf, is-cut, node-position}
 use Rattle.rules.proofs.Nodes.{part-node, node-part, node-at}
 use Rattle.rules.proofs.Fitting.{Decides}
 use Rattle.rules.proofs.Suiting.{design-decides, need-lists}
@@ -27,8 +28,8 @@ use Rattle.rules.proofs.Listing.{same-list}
 use Rattle.rules.proofs.Pairing.{pairings-list-the-cut}
 use Rattle.rules.proofs.Alike.{Alike, alike-off, alike-spans}
 use Rattle.rules.proofs.Changing.{edit-lawful, edit-nodes, edit-keeps, edit-rows}
-use Rattle.rules.proofs.Limits.{every-row}
-use Rattle.rules.proofs.Agreeing.{all-rows}
+use Rattle.rules.proofs.Limits.{every-row, no-other-row}
+use Rattle.rules.proofs.Agreeing.{on-more-rows, all-rows}
 
 -- a tree's shapes hang on what its own leaves list
 pub realizes-same : (W H : ℕ) {S S' : ℕ → Rectangle → Type 0} (t : Tree) → ((k : ℕ) (r : Rectangle) → So (has t k) → S k r → S' k r)
@@ -101,24 +102,48 @@ relisted-own d e lawful names work work' own rel =
     (λ t h o. off-same d d' p (nodeAt d t) (nodeAt d' t) (k .chip) (edit-nodes d lawful e names t h) o) work work' own rel in
     rw (kw, kh, kr) (λ t h c on. rw (node-position (node-at d' lawful' t h)) at (lists (nodeAt d' t) (node-part d' lawful' t h) c on))
 
--- where every node is listed from what it is relisted from, the bytes are the design's own lists
-pub relists-own : (d : Design) → LawfulDesign d → (work : List ℕ)
-    → ((t : ℕ) → t < nodes d → (c : Corner) → HasSlots d c
-    → IsListOf (widthOf d) (slotsOf d work t c) (Relists (widthOf d) (heightOf d) (slotRows d) (ListsOf d) work (nodeAt d t) c))
-    → OwnLists d (slotsOf d work)
-relists-own d lawful work made t h c on = rw (node-position (node-at d lawful t h)) at (go (nodeAt d t) (node-part d lawful t h) c on)
+-- a cut's children stand before it
+children-before : (d : Design) → LawfulDesign d → {t : ℕ} {e : Direction} {l r : Tree} → Part (cut t e l r) (root d) → (position l < t) × (position r < t)
+children-before d lawful {t} {e} {l} {r} q = let (h, p) = part-node d lawful (cut t e l r) q in go p (node-at d lawful t h)
   where
-    at : (u : Tree) → Part u (root d) → (c : Corner) → HasSlots d c
-        → IsListOf (widthOf d) (slotsOf d work (position u) c) (Relists (widthOf d) (heightOf d) (slotRows d) (ListsOf d) work u c)
-    at u q c on = let (b, e) = part-node d lawful u q in rw (← e) at (made (position u) b c on)
+    go : {u : Tree} → cut t e l r ≡ u → Node (d .modules) (tokenAt d) t u → (position l < t) × (position r < t)
+    go p (is-leaf x y) = let z : _≡_ {A = ℕ} 0 1 = cc in absurd (omega arith)
+    go p (is-cut {l = l'} {r = r'} x c) =
+        let el : l ≡ l' = cc in let er : r ≡ r' = cc in let a = c .left-before in let b = c .right-before in (rw el (omega arith), rw er (omega arith))
+
+-- What the nodes are listed from, child before parent: of a leaf its shapes, and of a cut what over its children's own lists gives its own.
+pub record ListsEach (d : Design) (work : List ℕ) (From : Tree → Corner → Shape → Type 0) : Type 0 where
+  pub of-leaf : (t k : ℕ) (c : Corner) (s : Shape) → Undominated (From (leaf t k) c) s ↔ Listed (widthOf d) (heightOf d) (ListsOf d) (leaf t k) c s
+  pub of-cut : (t : ℕ) (e : Direction) (l r : Tree) → ListsAt (widthOf d) (heightOf d) (heightOf d) (ListsOf d) (slotsOf d work (position l)) l
+      → ListsAt (widthOf d) (heightOf d) (heightOf d) (ListsOf d) (slotsOf d work (position r)) r
+      → (c : Corner) → CornerOn (widthOf d) (heightOf d) c → (s : Shape)
+      → Undominated (From (cut t e l r) c) s ↔ Listed (widthOf d) (heightOf d) (ListsOf d) (cut t e l r) c s
+
+-- where each of the first n nodes is listed from that, their bytes are their own lists
+pub lists-below : (d : Design) → LawfulDesign d → (work : List ℕ) {From : Tree → Corner → Shape → Type 0} → ListsEach d work From → (n : ℕ) → n ≤ nodes d
+    → ((t : ℕ) → t < n → (c : Corner) → HasSlots d c → IsListOf (widthOf d) (slotsOf d work t c) (From (nodeAt d t) c))
+    → FullLists (widthOf d) (heightOf d) (slotRows d) (ListsOf d) (nodeAt d) n (slotsOf d work)
+lists-below d lawful work {From} each n few made t h c on =
+    let e = node-position (node-at d lawful t (omega arith)) in
+    rw e at (go (nodeAt d t) (node-part d lawful t (omega arith)) (rw e h) c on)
+  where
+    at : (u : Tree) → Part u (root d) → position u < n → (c : Corner) → HasSlots d c → IsListOf (widthOf d) (slotsOf d work (position u) c) (From u c)
+    at u q b c on = let (_, e) = part-node d lawful u q in rw (← e) at (made (position u) b c on)
 
     on-chip : (u : Tree) → ListsAt (widthOf d) (heightOf d) (slotRows d) (ListsOf d) (slotsOf d work (position u)) u
         → ListsAt (widthOf d) (heightOf d) (heightOf d) (ListsOf d) (slotsOf d work (position u)) u
     on-chip u = all-rows (every-row d) (ListsOf d) (slotsOf d work (position u)) u
 
-    go : (u : Tree) → Part u (root d) → ListsAt (widthOf d) (heightOf d) (slotRows d) (ListsOf d) (slotsOf d work (position u)) u
-    go (leaf t k) q = at (leaf t k) q
-    go (cut t e l r) q = let x = on-chip l (go l (part-left q)) in let y = on-chip r (go r (part-right q)) in λ c on s.
-        let m = at (cut t e l r) q c on s in
-        let p = pairings-list-the-cut (design-decides d) t e l r (slotsOf d work (position l)) (slotsOf d work (position r)) x y c s in
-        (λ z. p .0 (m .0 z), λ z. m .1 (p .1 z))
+    go : (u : Tree) → Part u (root d) → position u < n → ListsAt (widthOf d) (heightOf d) (slotRows d) (ListsOf d) (slotsOf d work (position u)) u
+    go (leaf t k) q b = λ c on s. let m = at (leaf t k) q b c on s in let p = each .of-leaf t k c s in (λ z. p .0 (m .0 z), λ z. m .1 (p .1 z))
+    go (cut t e l r) q b =
+        let (hl, hr) = children-before d lawful q in
+        let x = on-chip l (go l (part-left q) (omega arith)) in let y = on-chip r (go r (part-right q) (omega arith)) in λ c on s.
+        let m = at (cut t e l r) q b c on s in let p = each .of-cut t e l r x y c (on-more-rows (no-other-row d) on) s in (λ z. p .0 (m .0 z), λ z. m .1 (p .1 z))
+
+-- all pairings of the children's stored shapes are such
+pub pairs-list-each : (d : Design) (work : List ℕ) → ListsEach d work (Relists (widthOf d) (heightOf d) (slotRows d) (ListsOf d) work)
+pairs-list-each d work = record {
+  of-leaf = λ t k c s. (λ u. u, λ u. u);
+  of-cut = λ t e l r x y c on s. pairings-list-the-cut (design-decides d) t e l r (slotsOf d work (position l)) (slotsOf d work (position r)) x y c s;
+}

@@ -7,6 +7,7 @@ use mathlib.Core.Bool.{_&&_, So}
 use Prim.Native.Nat.{ℕ, _≤_, _<_, max}
 use native.Mathlib.Omega.{arith}
 use native.Mathlib.Nat.{le-refl}
+use native.Mathlib.Decide.{decLe}
 use Rattle.rules.specs.declared.Direction.{Direction}
 use Rattle.rules.specs.declared.Direction.the-variants.{Vertical, Horizontal}
 use Rattle.rules.proofs.Test.{Test, turn, across, parted}
@@ -62,16 +63,20 @@ same-minimal P Q a c f g b d = (to, back)
         let e1 : b2 ≡ b = omega arith in let e2 : d2 ≡ d = omega arith in
         record { is = rw (e1, e2) at p; least = λ b' d' q h k. m .least b' d' (f b' d' q) h k }
 
--- under each room that passes stands an undominated one
-pub minimal-below : {W H : ℕ} {F : Test} {a c : ℕ} → Rising W H F a c → (b d : ℕ) → So (F a c b d)
-    → (b' : ℕ) × (d' : ℕ) × Minimal (Passes F) a c b' d' × (b' ≤ b) × (d' ≤ d)
-minimal-below {W} {H} {F} {a} {c} G b d t =
+-- under each room that passes stands an undominated one, as narrow as any that is no higher
+narrowest-below : {W H : ℕ} {F : Test} {a c : ℕ} → Rising W H F a c → (b d : ℕ) → So (F a c b d)
+    → (b' : ℕ) × (d' : ℕ) × Minimal (Passes F) a c b' d' × (b' ≤ b) × (d' ≤ d) × ((b2 : ℕ) → So (F a c b2 d) → b' ≤ b2)
+narrowest-below {W} {H} {F} {a} {c} G b d t =
     let z = G .solid b d t in
     let (b', h, s, l) = first (λ i. F a c i d) b t in
     let (d', k, u, n) = first (λ j. F a c b' j) d s in
     let least : (b2 d2 : ℕ) → So (F a c b2 d2) → b2 ≤ b' → d2 ≤ d' → (b' ≤ b2) × (d' ≤ d2) = λ b2 d2 v p q.
     (l b2 (G .rise b2 d2 b2 d v (le-refl b2) (omega arith) (omega arith) (omega arith)), n d2 (G .rise b2 d2 b' d2 v p (le-refl d2) (omega arith) (omega arith))) in
-    (b', d', record { is = u; least = least }, h, k)
+    (b', d', record { is = u; least = least }, h, k, l)
+
+pub minimal-below : {W H : ℕ} {F : Test} {a c : ℕ} → Rising W H F a c → (b d : ℕ) → So (F a c b d)
+    → (b' : ℕ) × (d' : ℕ) × Minimal (Passes F) a c b' d' × (b' ≤ b) × (d' ≤ d)
+minimal-below G b d t = let (b', d', m, h, k, _) = narrowest-below G b d t in (b', d', m, h, k)
 
 -- Lemma 1 of document 000: at a corner further down and left an undominated room ends no later
 pub lemma-1 : {W H : ℕ} {F : Test} → Growing W H F → (a c b d a' c' : ℕ) → So (F a c b d) → a' ≤ a → c' ≤ c
@@ -136,6 +141,43 @@ turn-minimal Horizontal P a c b d = (swap P c a d b, swap (turn Horizontal P) a 
   where
     swap : (Q : Rel) (c a d b : ℕ) → Minimal Q c a d b → Minimal (turn Horizontal Q) a c b d
     swap Q c a d b m = record { is = m .is; least = λ b' d' t h k. let e = m .least d' b' t k h in (e .1, e .0) }
+
+-- Under a room that passes stands an undominated one that is the highest of those no higher than the room; turned, the widest of those no wider.
+highest-across : {W H : ℕ} {F : Test} → Growing W H F → (a c b d : ℕ) → So (F a c b d)
+    → (b' : ℕ) × (d' : ℕ) × Minimal (Passes F) a c b' d' × (b' ≤ b) × (d' ≤ d) × ((b2 d2 : ℕ) → Minimal (Passes F) a c b2 d2 → d2 ≤ d → d2 ≤ d')
+highest-across {W} {H} {F} G a c b d t =
+    let z = G .solid a c b d t in
+    let (b', d', m, h, k, l) = narrowest-below (rising G a c) b d t in (
+      b',
+      d',
+      m,
+      h,
+      k,
+      λ b2 d2 n p.
+          go b2 d2 n (l b2 (G .grow a c b2 d2 a c b2 d (n .is) (le-refl a) (le-refl c) (le-refl b2) p (G .solid a c b2 d2 (n .is) .2) (z .3))) m,
+    )
+  where
+    go : {b' d' : ℕ} (b2 d2 : ℕ) → Minimal (Passes F) a c b2 d2 → b' ≤ b2 → Minimal (Passes F) a c b' d' → d2 ≤ d'
+    go {b'} {d'} b2 d2 n q m = at (decLe d2 d')
+      where
+        at : Dec (d2 ≤ d') → d2 ≤ d'
+        at (yes r) = r
+        at (no r) = n .least b' d' (m .is) q (omega arith) .1
+
+pub highest-below : (k : Direction) {W H : ℕ} {F : Test} → Growing W H F → (a c b d : ℕ) → So (F a c b d)
+    → (b' : ℕ) × (d' : ℕ) × Minimal (Passes F) a c b' d' × (b' ≤ b) × (d' ≤ d)
+    × ((b2 d2 : ℕ) → Minimal (Passes F) a c b2 d2 → across k d2 b2 ≤ across k d b → across k d2 b2 ≤ across k d' b')
+highest-below Vertical G a c b d t = highest-across G a c b d t
+highest-below Horizontal {F = F} G a c b d t =
+    let (d', b', m, k, h, l) = highest-across (turn-growing Horizontal G) c a d b t in (
+      b',
+      d',
+      turn-minimal Horizontal (turn Horizontal (Passes F)) a c b' d' .0 m,
+      h,
+      k,
+      λ b2 d2 n.
+          l d2 b2 (turn-minimal Horizontal (turn Horizontal (Passes F)) a c b2 d2 .1 n),
+    )
 
 turn-lists : (k : Direction) {F : Test} {L : Rel} → Lists F L → Lists (turn k F) (turn k L)
 turn-lists Vertical l a c b d = l a c b d

@@ -9,6 +9,7 @@ pub mod Walk
 pub mod Choice
 pub mod Design
 pub mod Edit
+pub mod Scan
 pub mod Bytes
 pub mod Check
 pub mod Score
