@@ -15,3 +15,4 @@ pub mod RefutePlans
 pub mod RefuteEdits
 pub mod RefuteScores
 pub mod RefuteWalks
+pub mod RefuteScans
