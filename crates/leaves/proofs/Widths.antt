@@ -22,13 +22,13 @@ use Rattle.rules.proofs.Rooms.{rising}
 use Rattle.rules.proofs.Suiting.{suits-growing}
 use Rattle.rules.proofs.Walking.{WalkedTo, down-same, rows-fall, walk-begins, walk-width, columns-used, rows-used, roomsAt, walk-lists}
 use Rattle.slots.specs.declared.Board.{Board}
-use Rattle.slots.specs.Written.{Filled}
+use Rattle.slots.specs.Written.{none, Filled}
 use Rattle.slots.specs.Lent.{startOn, slotsOn, mostWork, SlotOn}
 use Rattle.slots.proofs.Filling.{slot-filled}
 use Rattle.leaves.specs.declared.room.Room.{Room}
 use Rattle.leaves.specs.declared.Step.{Step}
 use Rattle.leaves.specs.declared.Step.the-variants.{At, UsedUp}
-use Rattle.leaves.specs.Leaf.{chipOn, none, CornerReady, SlotReady, WalkReady, SlotListed}
+use Rattle.leaves.specs.Leaf.{chipOn, CornerReady, SlotReady, WalkReady, SlotListed}
 use Rattle.leaves.specs.Room.{noColumns, wider, Widens}
 use Rattle.leaves.specs.Step.{descended, Descends, Steppable, stepTo, Stepped}
 use Rattle.leaves.proofs.Carrying.{roomOf, room-begins, room-wider, room-suits, room-widens}

@@ -1,9 +1,8 @@
 -- A leaf's slot: what listing it asks for, and what is listed.
 use mathlib.Core.Path.{_≡_}
-use mathlib.Core.Bool.{Bool, _&&_, So}
+use mathlib.Core.Bool.{So}
 use mathlib.Core.List.{List}
 use Prim.Native.Nat.{ℕ, suc, _+_, _≤_, _<_}
-use lib.Dec.{ltb, eqb}
 use lib.ListN.{length}
 use Rattle.rules.specs.declared.Corner.{Corner}
 use Rattle.rules.specs.declared.Rows.{Rows}
@@ -13,15 +12,11 @@ use Rattle.rules.specs.Design.{lawfulChip}
 use Rattle.rules.specs.Slot.{CornerOn}
 use Rattle.rules.proofs.Test.{listByte, suitsRoom}
 use Rattle.slots.specs.declared.Board.{Board}
-use Rattle.slots.specs.Lent.{startOn, slotsOn, mostWork, Addressed, Lent, SlotOn, PartOn, NodeOn}
+use Rattle.slots.specs.Lent.{startOn, slotsOn, mostWork, Addressed, Lent, SlotOn, PartOn, NodeOn, inRow}
 
 -- the bytes of a leaf's list at a corner
 abbrev pub leafBytes : Chip → Need → Corner → ℕ → ℕ
 leafBytes C need c = listByte (C .height .0) (suitsRoom C need) (c .x .0) (c .y .0)
-
--- no shape
-abbrev pub none : ℕ → ℕ
-none j = 0
 
 -- the chip of a board's size, with blocks so high, whose columns' kinds are lent: a corner is listed from these, and no copy of the
 -- chip is made for it
@@ -53,13 +48,6 @@ pub record LeafReady (b : Board) (C : Chip) (t : ℕ) (work : List ℕ) : Type 0
   pub width : b .width ≡ C .width
   pub height : b .height ≡ C .height
   pub lent : Lent b (suc t) work
-
--- the corners of row y before column x; the corners of the rows below row y
-abbrev pub inRow : ℕ → ℕ → Corner → Bool
-inRow y x c = eqb (c .y .0) y && ltb (c .x .0) x
-
-abbrev pub below : ℕ → Corner → Bool
-below y c = ltb (c .y .0) y
 
 -- a leaf's list in the slot of node t at a corner, in those of row y, and in all its slots; no other byte changes
 abbrev pub SlotListed : Board → Rows → List ℕ → Need → ℕ → Corner → List ℕ → List ℕ → Type 0

@@ -12,24 +12,11 @@ use rules::Corner;
 use rules::Need;
 use rules::Rows;
 use slots::Board;
+use slots::clear;
 use slots::slot_start;
-ghost use mathlib.Core.Path.{_≡_};
-ghost use Prim.Native.Nat.{_+_, _≤_, _<_};
-ghost use lib.ListN.{length};
-ghost use Rattle.slots.specs.Lent.{mostWork};
-ghost use Rattle.slots.specs.Written.{Filled};
+ghost use Prim.Native.Nat.{_<_};
 ghost use Rattle.leaves.specs.Step.{Steppable, Stepped};
-ghost use Rattle.leaves.specs.Leaf.{chipOn, none, SlotReady, WalkReady, LeafReady, SlotListed, RowListed, NodeListed};
-
-// Clears the bytes of a slot.
-fn clear(work: &mut [u8], start: usize, width: Columns)
-    requires { ⌜ (start + width .0 ≤ length (now work)) × (start + width .0 ≤ mostWork) ⌝ }
-    ensures { λ _. ⌜ Filled (now (work .entry)) start (width .0) none (now (work .exit)) ⌝ }
-{
-    for j in 0..width.0 {
-        work[start + j] = 0;
-    }
-}
+ghost use Rattle.leaves.specs.Leaf.{chipOn, SlotReady, WalkReady, LeafReady, SlotListed, RowListed, NodeListed};
 
 // What stepping down leaves: a room that no longer suits, or no rows.
 enum Step {

@@ -2,3 +2,4 @@
 pub mod Filling
 pub mod Writing
 pub mod Lending
+pub mod Covering

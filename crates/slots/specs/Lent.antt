@@ -1,7 +1,8 @@
 -- Where slots stand on a board, and what they ask of its size and of the bytes lent for them.
-use mathlib.Core.Bool.{Bool}
+use mathlib.Core.Bool.{Bool, _&&_}
 use mathlib.Core.List.{List}
 use Prim.Native.Nat.{ℕ, _+_, _≤_, _<_}
+use lib.Dec.{ltb, eqb}
 use lib.ListN.{length, getD}
 use Rattle.rules.specs.declared.Corner.{Corner}
 use Rattle.rules.specs.Slot.{slotStart, workNeeded, slot, CornerOn}
@@ -57,3 +58,10 @@ PartOn b t f done before after = PartIs (b .width .0) (b .listed .0) t f done be
 
 abbrev pub NodeOn : Board → ℕ → (Corner → ℕ → ℕ) → List ℕ → List ℕ → Type 0
 NodeOn b t f before after = NodeIs (b .width .0) (b .listed .0) t f before after
+
+-- a node's corners row by row: the corners of row y before column x; the corners of the rows below row y
+abbrev pub inRow : ℕ → ℕ → Corner → Bool
+inRow y x c = eqb (c .y .0) y && ltb (c .x .0) x
+
+abbrev pub below : ℕ → Corner → Bool
+below y c = ltb (c .y .0) y

@@ -13,6 +13,10 @@ unfoldable pub over : List ℕ → ℕ → ℕ → (ℕ → ℕ) → List ℕ
 over w a zero f = w
 over w a (suc n) f = set (over w a n f) (a + n) (f n)
 
+-- no shape: what a slot is cleared to
+abbrev pub none : ℕ → ℕ
+none j = 0
+
 -- `after` is `before` with that run written: what a loop that stores one byte after the other has done
 pub record Filled (before : List ℕ) (a n : ℕ) (f : ℕ → ℕ) (after : List ℕ) : Type 0 where
   pub is : after ≡ over before a n f

@@ -1,11 +1,13 @@
-// Slots in the work bytes: where they start, and how writing one leaves all others.
+// Slots in the work bytes: where they start, how one is cleared, and how writing one leaves all others.
 use rules::Columns;
 use rules::Corner;
 use rules::Design;
 use rules::Rows;
 ghost use mathlib.Core.Path.{_≡_};
 ghost use Prim.Native.Nat.{_+_, _≤_};
+ghost use lib.ListN.{length};
 ghost use Rattle.slots.specs.Size.{boardOf};
+ghost use Rattle.slots.specs.Written.{none, Filled};
 ghost use Rattle.slots.specs.Lent.{Addressed, startOn, mostWork};
 
 // The chip's size, and how many of its rows are listed and so have slots.
@@ -35,4 +37,14 @@ pub fn slot_start(board: Board, t: usize, at: Corner) -> usize
 {
     let width = board.width.0;
     ((t * board.listed.0 + at.y.0) * width + at.x.0) * width
+}
+
+// Clears the bytes of a slot.
+pub fn clear(work: &mut [u8], start: usize, width: Columns)
+    requires { ⌜ (start + width .0 ≤ length (now work)) × (start + width .0 ≤ mostWork) ⌝ }
+    ensures { λ _. ⌜ Filled (now (work .entry)) start (width .0) none (now (work .exit)) ⌝ }
+{
+    for j in 0..width.0 {
+        work[start + j] = 0;
+    }
 }

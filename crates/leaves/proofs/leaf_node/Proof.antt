@@ -4,9 +4,10 @@ use mathlib.Core.Path.{_≡_, refl}
 use Prim.Native.Nat.{_-_, _≤_}
 use native.Mathlib.Omega.{arith}
 use borrow.Author.Needs.{needs}
-use Rattle.slots.specs.Lent.{PartOn}
-use Rattle.leaves.specs.Leaf.{leafBytes, below}
-use Rattle.leaves.proofs.Covering.{still-ready, none-below, one-row-more, all-rows}
+use Rattle.slots.specs.Lent.{PartOn, below}
+use Rattle.leaves.specs.Leaf.{leafBytes}
+use Rattle.slots.proofs.Covering.{none-below, one-row-more, all-rows}
+use Rattle.leaves.proofs.Covering.{still-ready}
 use Rattle.leaves.proofs.leaf_node.Statement.{statement}
 use Rattle.leaves.proofs.leaf_node.Tie as tie
 

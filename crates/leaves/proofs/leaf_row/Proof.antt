@@ -4,9 +4,10 @@ use mathlib.Core.Path.{_≡_, refl}
 use Prim.Native.Nat.{_-_, _≤_}
 use native.Mathlib.Omega.{arith}
 use borrow.Author.Needs.{needs}
-use Rattle.slots.specs.Lent.{PartOn}
-use Rattle.leaves.specs.Leaf.{leafBytes, inRow}
-use Rattle.leaves.proofs.Covering.{slot-on, corner-ready, still-ready, none-in-row, one-in-row}
+use Rattle.slots.specs.Lent.{PartOn, inRow}
+use Rattle.leaves.specs.Leaf.{leafBytes}
+use Rattle.slots.proofs.Covering.{none-in-row, one-in-row}
+use Rattle.leaves.proofs.Covering.{slot-on, corner-ready, still-ready}
 use Rattle.leaves.proofs.leaf_row.Statement.{statement}
 use Rattle.leaves.proofs.leaf_row.Tie as tie
 

@@ -1,13 +1,12 @@
--- `leaves::clear` meets its contract. The loop's invariant: the first j bytes are cleared. The measure is how many are left. Assumes nothing.
+-- `slots::clear` meets its contract. The loop's invariant: the first j bytes are cleared. The measure is how many are left. Assumes nothing.
 use mathlib.Core.Path.{_≡_, refl}
 use Prim.Native.Nat.{_-_, _≤_}
 use native.Mathlib.Omega.{arith}
 use borrow.Author.Needs.{needs}
-use Rattle.slots.specs.Written.{Filled}
+use Rattle.slots.specs.Written.{none, Filled}
 use Rattle.slots.proofs.Filling.{none-filled, one-filled, same-length as same-long}
-use Rattle.leaves.specs.Leaf.{none}
-use Rattle.leaves.proofs.clear.Statement.{statement}
-use Rattle.leaves.proofs.clear.Tie as tie
+use Rattle.slots.proofs.clear.Statement.{statement}
+use Rattle.slots.proofs.clear.Tie as tie
 
 abbrev Inv-loop : tie.InvT-loop
 Inv-loop work₀ start j₀ j-end work j = (j ≤ j-end) × Filled work₀ start j none work
