@@ -9,14 +9,17 @@ use Rattle.rules.specs.declared.Design.{Design}
 use Rattle.rules.specs.declared.Direction.{Direction}
 use Rattle.rules.specs.declared.Token.the-variants.{Cut, Module}
 use Rattle.rules.specs.Tree.{Tree, leaf, cut, position}
-use Rattle.rules.specs.Design.{needAt, tokenAt, nodeAt, nodes, slotsOf, widthOf, heightOf, mostModules, mostTokens}
+use Rattle.rules.specs.Design.{needAt, tokenAt, nodeAt, nodes, root, ListsOf, slotsOf, widthOf, heightOf, mostModules, mostTokens}
 use Rattle.rules.proofs.Test.{fits}
-use Rattle.rules.proofs.Standing.{Node, is-leaf, is-cut, node-module}
-use Rattle.rules.proofs.Nodes.{node-at}
-use Rattle.rules.proofs.Limits.{limits, lawful-chip}
+use Rattle.rules.proofs.Standing.{Part, Node, is-leaf, is-cut, node-module}
+use Rattle.rules.proofs.Nodes.{node-at, node-part, part-node}
+use Rattle.rules.proofs.Limits.{limits, lawful-chip, every-row}
 use Rattle.rules.proofs.Listing.{list-bytes}
 use Rattle.rules.proofs.Pairing.{pairings-bytes}
 use Rattle.rules.proofs.Suiting.{design-decides}
+use Rattle.rules.proofs.Agreeing.{all-rows}
+use Rattle.rules.proofs.Relisting.{part-left, part-right}
+use Rattle.rules.proofs.Scanning.{Grows, own-grows}
 use Rattle.cuts.specs.Cut.{pairedSlot, Cuttable}
 use Rattle.leaves.specs.Leaf.{leafBytes, NodeListed, LeafReady}
 use Rattle.slots.specs.declared.Board.{Board}
@@ -24,7 +27,8 @@ use Rattle.slots.specs.Size.{boardOf}
 use Rattle.slots.specs.Lent.{Lent, NodeOn}
 use Rattle.slots.proofs.Lending.{lent-of, fewer-lent}
 use Rattle.trees.proofs.Lefts.{left-child}
-use Rattle.listing.specs.Making.{Listable, NodeMade}
+use Rattle.listing.specs.Making.{Listable, ListsBelow, MayScan, CutReady, NodeMade}
+use Rattle.listing.specs.declared.By.{By}
 
 module _ {d : Design} {lefts work : List ℕ} (L : Listable d lefts work) {t : ℕ} (h : t < nodes d) where
   pub few-nodes : t < mostTokens
@@ -57,7 +61,7 @@ module _ {d : Design} {lefts work : List ℕ} (L : Listable d lefts work) {t : �
     listed = λ c on. rw (node-module its-node q) (list-bytes (design-decides d) (leaf t k) c);
   }
 
-  pub cut-lent : {b : Board} {l r : ℕ} → b ≡ boardOf d → l < t → r < t → Cuttable b t l r work
+  cut-lent : {b : Board} {l r : ℕ} → b ≡ boardOf d → l < t → r < t → Cuttable b t l r work
   cut-lent e x y = record { lent = node-lent e; first = x; second = y }
 
   module _ {k : Direction} (q : tokenAt d t ≡ Cut k) where
@@ -76,6 +80,22 @@ module _ {d : Design} {lefts work : List ℕ} (L : Listable d lefts work) {t : �
 
     pub cut-after : 1 ≤ t
     cut-after = let (l, r, p, a, b, x, y) = its-children in omega arith
+
+    -- by all pairs whatever the children's slots hold, and by the scan where the nodes before have their own lists
+    pub cut-ready : {b : Board} {by : By} → b ≡ boardOf d → MayScan by d t work → CutReady by b t (getD lefts t 0) (t - 1) work
+    cut-ready {b} {by} e may = let (l, r, p, el, er, x, y) = its-children in record {
+      cuttable = cut-lent e (omega arith) (omega arith);
+      scannable = λ s. record {
+        cuttable = cut-lent e (omega arith) (omega arith);
+        lefts = rw (e, el) (child-grows l (part-left (rw p at (node-part d (L .lawful) t h))) x (may s));
+        rights = rw (e, er) (child-grows r (part-right (rw p at (node-part d (L .lawful) t h))) y (may s));
+      };
+    }
+      where
+        child-grows : (u : Tree) → Part u (root d) → position u < t → ListsBelow d t work → Grows (widthOf d) (heightOf d) (slotsOf d work (position u))
+        child-grows u q b lists =
+            let (_, e) = part-node d (L .lawful) u q in
+            own-grows (design-decides d) u (slotsOf d work (position u)) (all-rows (every-row d) (ListsOf d) (slotsOf d work (position u)) u (rw (← e) at (lists (position u) b)))
 
     pub cut-made : {b : Board} {after : List ℕ} → b ≡ boardOf d
         → NodeOn b t (pairedSlot k b work (getD lefts t 0) (t - 1)) work after → NodeMade d t work after

@@ -6,6 +6,7 @@ use mathlib.Core.Bool.{Bool, So}
 use mathlib.Core.List.{List}
 use Prim.Native.Nat.{ℕ, _+_, _≤_, _<_}
 use native.Mathlib.Omega.{arith}
+use native.Mathlib.Nat.{le-refl}
 use native.Mathlib.Decide.{ℕ-discrete}
 use lib.ListN.{length}
 use Rattle.rules.specs.declared.Corner.{Corner}
@@ -20,10 +21,10 @@ use Rattle.rules.proofs.Standing.{Node, is-cut}
 use Rattle.rules.proofs.Nodes.{node-at}
 use Rattle.rules.proofs.Limits.{every-row, no-other-row}
 use Rattle.rules.proofs.Listing.{same-list}
-use Rattle.rules.proofs.Relisting.{relists-own}
+use Rattle.rules.proofs.Relisting.{lists-below, pairs-list-each}
 use Rattle.rules.proofs.Agreeing.{Agree, on-more-rows, agree-on, agree-back, paired-agree}
 use Rattle.slots.proofs.Writing.{node-other, past-nodes}
-use Rattle.listing.specs.Making.{Listable, IsListed, NodeMade, Made, onWay, ListedAfresh}
+use Rattle.listing.specs.Making.{Listable, ListsBelow, IsListed, NodeMade, Made, onWay, ListedAfresh}
 
 -- bytes of the same length serve as well
 pub listable-kept : {d : Design} {lefts before after : List ℕ} → length after ≡ length before → Listable d lefts before → Listable d lefts after
@@ -103,10 +104,15 @@ same-marks e m = record {
   past = m .past;
 }
 
+-- where the nodes so far are all marked, their slots are their own lists
+pub below-made : {d : Design} {marked : ℕ → Bool} {t : ℕ} {before after : List ℕ} → LawfulDesign d → t ≤ nodes d → ((u : ℕ) → u < nodes d → So (marked u)) → Made d marked t before after
+    → ListsBelow d t after
+below-made {d} {t = t} {after = after} lawful h every m = lists-below d lawful after (pairs-list-each d after) t h (λ u b c on. m .made u b (every u (omega arith)) c on)
+
 -- all nodes listed: the design's full lists stand in work, and the bytes past them stay
 pub all-made : {d : Design} {marked : ℕ → Bool} {before after : List ℕ} → LawfulDesign d → ((t : ℕ) → t < nodes d → So (marked t)) → Made d marked (nodes d) before after
     → ListedAfresh d before after
-all-made {after = after} lawful every m = (record { length = m .long; past = m .past }, relists-own _ lawful after (λ t h c on. m .made t h (every t h) c on))
+all-made {d} lawful every m = (record { length = m .long; past = m .past }, below-made lawful (le-refl (nodes d)) every m)
 
 -- the way of an edit listed: the bytes that edit's rule asks for
 pub way-made : (d : Design) (e : Edit) {before after : List ℕ} → Made (changed d e) (onWay (changed d e) (changedNode d e)) (nodes (changed d e)) before after → EditedLists d e before after

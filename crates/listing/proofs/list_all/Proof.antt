@@ -1,4 +1,4 @@
--- `listing::list_all` meets its contract: every node is marked, so all are listed. Assumes nothing.
+-- `listing::list_all` meets its contract: every node is marked, so all are listed, and by the scan. Assumes nothing.
 use mathlib.Core.Bool.{true, false}
 use native.Mathlib.Omega.{arith}
 use lib.ListN.{getD-replicate}
@@ -13,7 +13,7 @@ left-children-requires : tie.Need-left-children-requires
 left-children-requires c κs = search needs
 
 list-marked-requires : tie.Need-list-marked-requires
-list-marked-requires c κs = search needs
+list-marked-requires c κs = let l = limits _ (c .before .before .before .pre .0) in (search needs, λ _ t h. getD-replicate mostTokens t true false (omega arith))
 
 same-length : tie.Need-same-length
 same-length c = search needs

@@ -4,7 +4,7 @@ use mathlib.Core.Path.{sym, _∙_}
 use native.Mathlib.Omega.{arith}
 use borrow.Author.Needs.{needs}
 use Rattle.rules.proofs.Nodes.{never-beyond}
-use Rattle.listing.proofs.Nodes.{few-nodes, module-of, leaf-ready, leaf-made, left-before, cut-after, cut-lent, cut-made}
+use Rattle.listing.proofs.Nodes.{few-nodes, module-of, leaf-ready, leaf-made, cut-after, cut-ready, cut-made}
 use Rattle.listing.proofs.list_node.Statement.{statement}
 use Rattle.listing.proofs.list_node.Tie as tie
 
@@ -26,16 +26,15 @@ array-read-left c = let p = c .before .before .before .before .before .before .b
 cast-left : tie.Need-cast-left
 cast-left c = search needs
 
-sub-cut-node : tie.Need-sub-cut-node
-sub-cut-node c =
+sub-list-cut : tie.Need-sub-list-cut
+sub-list-cut c =
     let k = c .before .before in let f = k .before .before in let p = f .before .before .before .before .pre in
     cut-after (p .0) (p .1) (sym (f .token-of .ensures) ∙ k .token .given .1)
 
-cut-node-requires : tie.Need-cut-node-requires
-cut-node-requires c κs =
+list-cut-requires : tie.Need-list-cut-requires
+list-cut-requires c κs =
     let k = c .before .before in let f = k .before .before in let p = f .before .before .before .before .pre in
-    let q = sym (f .token-of .ensures) ∙ k .token .given .1 in let l = left-before (p .0) (p .1) q in let a = cut-after (p .0) (p .1) q in
-    cut-lent (p .0) (p .1) (f .before .before .board-of .ensures) (omega arith) (omega arith)
+    cut-ready (p .0) (p .1) (sym (f .token-of .ensures) ∙ k .token .given .1) (f .before .before .board-of .ensures) (p .2)
 
 enum-known-token-2 : tie.Need-enum-known-token-2
 enum-known-token-2 c = search needs
@@ -64,7 +63,7 @@ same-length c = search needs
 returns : tie.Need-returns
 returns c =
     let k = c .before .before .before .before .before in let f = k .before .before in let p = f .before .before .before .before .pre in
-    cut-made (p .0) (p .1) (sym (f .token-of .ensures) ∙ k .token .given .1) (f .before .before .board-of .ensures) (c .before .before .cut-node .ensures)
+    cut-made (p .0) (p .1) (sym (f .token-of .ensures) ∙ k .token .given .1) (f .before .before .board-of .ensures) (c .before .before .list-cut .ensures)
 
 same-length-2 : tie.Need-same-length-2
 same-length-2 c = search needs
@@ -89,8 +88,8 @@ list-node-spec =
     enum-known-token
     array-read-left
     cast-left
-    sub-cut-node
-    cut-node-requires
+    sub-list-cut
+    list-cut-requires
     enum-known-token-2
     mul-need
     element-copy-out-need
