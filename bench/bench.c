@@ -50,7 +50,7 @@ static void same(const char *name, const char *job, int all_is_same)
 static void line(const char *name, const char *job, count proved, count plain, double goal)
 {
     double ratio = (double)proved / (double)plain;
-    printf("%-8s %-32s %13lld %13lld %7.2f", name, job, proved, plain, ratio);
+    printf("%-8s %-34s %13lld %13lld %7.2f", name, job, proved, plain, ratio);
     if (goal)
         printf("   %.1f %s", goal, ratio < goal ? "met" : "missed");
     printf("\n");
@@ -109,12 +109,13 @@ static int plan_file(const struct file *file, byte *rows)
 // ---- counted
 
 struct counted {
-    count proved, by_pairs, by_rows;
+    count proved, by_pairs, by_rows, by_letter, by_scan;
 };
 
 static struct counted less(struct counted a, struct counted b)
 {
-    return (struct counted){a.proved - b.proved, a.by_pairs - b.by_pairs, a.by_rows - b.by_rows};
+    return (struct counted){a.proved - b.proved, a.by_pairs - b.by_pairs, a.by_rows - b.by_rows, a.by_letter - b.by_letter,
+                            a.by_scan - b.by_scan};
 }
 
 static struct counted listing(const char *name, const struct design *d)
@@ -132,28 +133,35 @@ static struct counted listing(const char *name, const struct design *d)
     memset(plain_work, BEFORE, WORK);
     COUNT(c.by_rows, number = list_file(&file, BY_ROWS));
     same(name, "list by rows", number == 0 && memcmp(proved_work, plain_work, WORK) == 0);
+    memset(plain_work, BEFORE, WORK);
+    COUNT(c.by_letter, number = list_file(&file, BY_LETTER));
+    same(name, "list by the scan to the letter", number == 0 && memcmp(proved_work, plain_work, WORK) == 0);
+    memset(plain_work, BEFORE, WORK);
+    COUNT(c.by_scan, number = list_file(&file, BY_SCAN));
+    same(name, "list by the scan", number == 0 && memcmp(proved_work, plain_work, WORK) == 0);
     return c;
 }
 
 // Each module listed alone on the same chip: what the leaves of the whole listing take.
 static struct counted leaves(const char *name, const struct design *d)
 {
-    struct counted sum = {0, 0, 0};
+    struct counted sum = {0, 0, 0, 0, 0};
     for (int k = 0; k < d->modules; k++) {
         struct design alone = *d;
         alone.modules = 1;
         alone.needs[0] = d->needs[k];
         alone.tokens[0] = 2;
         struct counted c = listing(name, &alone);
-        sum = (struct counted){sum.proved + c.proved, sum.by_pairs + c.by_pairs, sum.by_rows + c.by_rows};
+        sum = (struct counted){sum.proved + c.proved, sum.by_pairs + c.by_pairs, sum.by_rows + c.by_rows,
+                               sum.by_letter + c.by_letter, sum.by_scan + c.by_scan};
     }
     return sum;
 }
 
-// An edit over the bytes in `lists`, which has to be given this reply.
+// An edit over the bytes in `lists`, which has to be given this reply. No edit goes by the scan.
 static struct counted editing(const char *name, const struct design *d, int module, struct need need, int reply)
 {
-    struct counted c;
+    struct counted c = {0, 0, 0, 0, 0};
     struct file file = file_of(d);
     byte edited[CELLWEAVER_MOST_BYTES];
     size_t value;
@@ -176,11 +184,35 @@ static struct counted editing(const char *name, const struct design *d, int modu
 static void measure_list(const char *name, const struct design *d)
 {
     struct counted leaf = leaves(name, d), all = listing(name, d), cut = less(all, leaf);
+    line(name, "list; C scans to the letter", all.proved, all.by_letter, 1.1);
+    line(name, "list; C by the scan", all.proved, all.by_scan, 1.1);
     line(name, "list; C by all pairs", all.proved, all.by_pairs, 1);
     line(name, "list; C by rows", all.proved, all.by_rows, 0);
-    line(name, "  its leaves", leaf.proved, leaf.by_rows, 1.1);
+    line(name, "  its leaves", leaf.proved, leaf.by_scan, 1.1);
+    line(name, "  its cuts; C scans to the letter", cut.proved, cut.by_letter, 0);
+    line(name, "  its cuts; C by the scan", cut.proved, cut.by_scan, 0);
     line(name, "  its cuts; C by all pairs", cut.proved, cut.by_pairs, 0);
-    line(name, "  its cuts; C by rows", cut.proved, cut.by_rows, 2);
+    line(name, "  its cuts; C by rows", cut.proved, cut.by_rows, 0);
+}
+
+// The cuts of a design on its first columns alone, with needs in proportion: how each way grows with the width.
+static void measure_width(const char *name, const struct design *d, int width)
+{
+    struct design narrow = *d;
+    char job[64];
+    narrow.width = width;
+    for (int k = 0; k < d->modules; k++) {
+        narrow.needs[k].clbs = d->needs[k].clbs * width / d->width;
+        narrow.needs[k].rams = d->needs[k].rams * width / d->width;
+        narrow.needs[k].multipliers = d->needs[k].multipliers * width / d->width;
+    }
+    struct counted cut = less(listing(name, &narrow), leaves(name, &narrow));
+    snprintf(job, sizeof job, "cuts, W %d; C by the scan", width);
+    line(name, job, cut.proved, cut.by_scan, 0);
+    snprintf(job, sizeof job, "cuts, W %d; C by rows", width);
+    line(name, job, cut.proved, cut.by_rows, 0);
+    snprintf(job, sizeof job, "cuts, W %d; C by all pairs", width);
+    line(name, job, cut.proved, cut.by_pairs, 0);
 }
 
 // The edit is counted granted, and again refused with 9, since the very last byte is made no stair's: what that takes is the stair test.
@@ -280,9 +312,11 @@ int main(int arguments, char **argument)
     }
     counts = argument[1];
     printf("Guest instructions. Every lent byte is %d before a run (before an edit: the design's lists), set outside the count.\n\n", BEFORE);
-    printf("%-8s %-32s %13s %13s %7s   %s\n", "design", "job", "proved", "plain C", "ratio", "goal");
+    printf("%-8s %-34s %13s %13s %7s   %s\n", "design", "job", "proved", "plain C", "ratio", "goal");
     measure_list("levels", &LEVELS);
     measure_list("deep", &DEEP);
+    for (int width = 16; width <= LEVELS.width; width += 16)
+        measure_width("levels", &LEVELS, width);
     measure_edit("levels", &LEVELS, 5, (struct need){210, 5, 4});
     measure_edit("deep", &DEEP, 0, (struct need){36, 2, 1});
     measure_plan("D", &D);

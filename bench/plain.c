@@ -382,6 +382,118 @@ static void list_cut_by_rows(const struct design *d, int vertical, byte *work, i
         }
 }
 
+// The source's short scan to the letter of order 3 of 02, at a corner of a vertical cut, over the children's own lists. Left shapes are taken from
+// the lowest up, which is the widest; one that reaches the chip's last column has no corner beside it. Beside each, the highest right shape no
+// higher than it is looked up in its list, the lowest where all are higher; from there on right shapes are higher, up to the next left one's height.
+static void scan_beside_to_the_letter(const byte *left, const byte *right, int columns, int width, byte *to)
+{
+    int last = columns + 1, wide = columns - 1;
+    while (wide > 0 && left[wide - 1] == 0)
+        wide--;
+    while (wide > 0) {
+        const byte *beside = right + wide * width;
+        int height = left[wide - 1], next = wide - 1, found = -1;
+        while (next > 0 && left[next - 1] == 0)
+            next--;
+        int stop = next > 0 ? left[next - 1] : 255;
+        for (int k = 0; k < columns - wide; k++) {
+            if (beside[k] == 0)
+                continue;
+            found = k;
+            if (beside[k] <= height)
+                break;
+        }
+        for (int k = found; k >= 0; k--) {
+            if (beside[k] == 0)
+                continue;
+            if (beside[k] >= stop)
+                break;
+            if (wide + k + 1 < last) {
+                last = wide + k + 1;
+                to[last - 1] = beside[k] > height ? beside[k] : height;
+            }
+        }
+        wide = next;
+    }
+}
+
+// The same scan, with the look-up from the last right shape whose box would be narrower than the last kept, and down from there.
+static void scan_beside(const byte *left, const byte *right, int columns, int width, byte *to)
+{
+    int last = columns + 1, wide = columns - 1;
+    while (wide > 0 && left[wide - 1] == 0)
+        wide--;
+    while (wide > 0) {
+        const byte *beside = right + wide * width;
+        int height = left[wide - 1], next = wide - 1, k = last - 1 - wide, found = 0;
+        while (next > 0 && left[next - 1] == 0)
+            next--;
+        int stop = next > 0 ? left[next - 1] : 255;
+        for (; k > 0; k--) {
+            if (beside[k - 1] == 0)
+                continue;
+            if (beside[k - 1] > height)
+                break;
+            found = k;
+        }
+        if (found) {
+            last = wide + found;
+            to[last - 1] = height;
+        }
+        for (; k > 0; k--) {
+            if (beside[k - 1] == 0)
+                continue;
+            if (beside[k - 1] >= stop)
+                break;
+            last = wide + k;
+            to[last - 1] = beside[k - 1];
+        }
+        wide = next;
+    }
+}
+
+// And at a corner of a horizontal one, left shapes from the narrowest on: the widest right shape no wider is looked up, and wider ones follow, up to
+// the next left one's width. A row of corners further up, the right slots are `row` bytes further on.
+static void scan_above(const byte *left, const byte *right, int columns, int rows, size_t row, byte *to)
+{
+    int low = rows + 1, i = 0;
+    while (i < columns && left[i] == 0)
+        i++;
+    while (i < columns) {
+        int height = left[i], next = i + 1;
+        while (next < columns && left[next] == 0)
+            next++;
+        if (height < rows) {
+            const byte *above = right + height * row;
+            int k = i;
+            while (k >= 0 && above[k] == 0)
+                k--;
+            if (k >= 0 && height + above[k] < low)
+                to[i] = low = height + above[k];
+            for (k = i + 1; k < next; k++)
+                if (above[k] && height + above[k] < low)
+                    to[k] = low = height + above[k];
+        }
+        i = next;
+    }
+}
+
+static void list_cut_by_scan(const struct design *d, enum way way, int vertical, byte *work, int t, int left, int right)
+{
+    for (int y = 0; y < d->height; y++)
+        for (int x = 0; x < d->width; x++) {
+            const byte *l = slot(d, work, left, x, y), *r = slot(d, work, right, x, y);
+            byte *to = slot(d, work, t, x, y);
+            memset(to, 0, d->width);
+            if (vertical && way == BY_LETTER)
+                scan_beside_to_the_letter(l, r, d->width - x, d->width, to);
+            else if (vertical)
+                scan_beside(l, r, d->width - x, d->width, to);
+            else
+                scan_above(l, r, d->width - x, d->height - y, (size_t)d->width * d->width, to);
+        }
+}
+
 static void list_node(const struct design *d, enum way way, byte *work, int t, int left)
 {
     int token = d->tokens[t];
@@ -389,6 +501,8 @@ static void list_node(const struct design *d, enum way way, byte *work, int t, i
         list_leaf(d, work, t, d->needs[token - 2]);
     else if (way == BY_PAIRS)
         list_cut_by_pairs(d, token == 0, work, t, left, t - 1);
+    else if (way == BY_SCAN || way == BY_LETTER)
+        list_cut_by_scan(d, way, token == 0, work, t, left, t - 1);
     else
         list_cut_by_rows(d, token == 0, work, t, left, t - 1);
 }

@@ -1,4 +1,4 @@
-// A planner in plain C, written from document 01 and orders 1 and 2 of 02, for the bench to compare with. Nothing in it
+// A planner in plain C, written from document 01 and orders 1 to 3 of 02, for the bench to compare with. Nothing in it
 // is proved.
 #include <stddef.h>
 
@@ -19,8 +19,10 @@ struct design {
     byte tokens[MOST_TOKENS];
 };
 
-// How a cut's slots are made: by every pair of stored shapes at each corner, or by running minima over rows of heights.
-enum way { BY_PAIRS, BY_ROWS };
+// How a cut's slots are made: by every pair of stored shapes at each corner, by running minima over rows of heights, or by
+// the source's short scan, which is for the children's own lists alone: to the letter of order 3, or with the look-up from
+// the side of the last box kept.
+enum way { BY_PAIRS, BY_ROWS, BY_LETTER, BY_SCAN };
 
 struct answer {
     int number;    // 01's number of the reply
