@@ -3,10 +3,9 @@
 use mathlib.Core.Path.{_≡_, sym, _∙_}
 use mathlib.Core.Logic.{_⊎_, inl, inr, _↔_}
 use mathlib.Core.Bool.{So}
-use Prim.Native.Nat.{ℕ, suc, _+_, _-_, _≤_, _<_}
+use Prim.Native.Nat.{ℕ, _+_, _≤_}
 use native.Mathlib.Omega.{arith}
 use native.Mathlib.Nat.{le-trans, mul-le-mul}
-use native.Mathlib.Decide.{decLt}
 use borrow.Author.Tests.{eqb-true}
 use Rattle.rules.specs.declared.Corner.{Corner}
 use Rattle.rules.specs.declared.Shape.{Shape}
@@ -23,8 +22,9 @@ use Rattle.rules.proofs.Searching.{or-iff}
 use Rattle.rules.proofs.Standing.{Once}
 use Rattle.rules.proofs.Fitting.{Decides, realizes-fits, fits-growing}
 use Rattle.rules.proofs.Placing.{PlacedIn, Leaves, placed-fits, fits-placed, furthest-within, furthest-reaches}
-use Rattle.rules.proofs.Listing.{list-complete, list-sorted}
-use Rattle.rules.proofs.Choosing.{byte-stores}
+use Rattle.rules.proofs.Rooms.{rising}
+use Rattle.rules.proofs.Listing.{list-complete, minimal-listed}
+use Rattle.rules.proofs.Stairs.{minimal-stair}
 
 -- rectangles that follow a tree share no cell
 pub follow-apart : (t : Tree) (p : Placement) → Follows t p → ShareNoCell t p
@@ -53,22 +53,8 @@ module _ {W H : ℕ} {Lists : ℕ → Rectangle → Type 0} {F : ℕ → Test} (
 
   -- a list is a stair
   pub list-stair : (t : Tree) (c : Corner) (g : ℕ → ℕ) → IsListOf W g (ShapeAt W H Lists t c) → Stair W H c g
-  list-stair t c g l = record {
-    fall = λ i j h k p q. list-sorted W g l (shape (suc i) (g i)) (shape (suc j) (g j)) (byte-stores W g i (omega arith) p) (byte-stores W g j k q) (omega arith);
-    rows = λ j h. low j h (decLt 0 (g j));
-    columns = λ j h k. narrow j h k (decLt 0 (g j));
-  }
-    where
-      on : (j : ℕ) → j < W → 0 < g j → OnChip W H (record { corner = c; shape = shape (suc j) (g j) })
-      on j h p = realizes-on-chip t _ (l (shape (suc j) (g j)) .0 (byte-stores W g j h p) .is)
-
-      low : (j : ℕ) → j < W → Dec (0 < g j) → g j ≤ H - c .y .0
-      low j h (yes p) = let o = on j h p .rows in omega arith
-      low j h (no p) = omega arith
-
-      narrow : (j : ℕ) → j < W → W - c .x .0 < suc j → Dec (0 < g j) → g j ≡ 0
-      narrow j h k (yes p) = let o = on j h p .columns in absurd (omega arith)
-      narrow j h k (no p) = omega arith
+  list-stair t c g l = minimal-stair c g (rising (fits-growing F (dec .growing) t) (c .x .0) (c .y .0))
+      (λ s. let m = minimal-listed dec t c s in (λ z. m .1 (l s .0 z), λ z. l s .1 (m .0 z)))
 
   -- what is listed, and what is placed: the one law record ties the two
   module _ {Suits : ℕ → Rectangle → Type 0} {given : ℕ → Rectangle → Rectangle} (laws : Leaves W H Suits F given) (t : Tree) where

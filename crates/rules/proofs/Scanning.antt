@@ -20,11 +20,11 @@ use Rattle.rules.specs.Choice.{beside, pairing}
 use Rattle.rules.specs.Edit.{Paired}
 use Rattle.rules.specs.Scan.{level, along, LooksAt, BoxOf, Scanned, Earlier, Keeps}
 use Rattle.rules.proofs.Test.{Test, across, fits}
-use Rattle.rules.proofs.Rooms.{Growing, Passes, Minimal, highest-below}
+use Rattle.rules.proofs.Rooms.{Growing, rising, Passes, Minimal, highest-below}
 use Rattle.rules.proofs.Fitting.{Decides, fits-growing}
 use Rattle.rules.proofs.Listing.{same-shape, same-stores, minimal-listed}
 use Rattle.rules.proofs.Pairing.{pairings-list-the-cut}
-use Rattle.rules.proofs.Choosing.{byte-stores}
+use Rattle.rules.proofs.Stairs.{minimal-stair}
 use Rattle.rules.proofs.Paper.{at, undominated-below}
 
 -- the two sides of a shape: what dominance says of them, and those of a box
@@ -205,33 +205,14 @@ grows-same {W} {g = g} {g' = g'} e G = record {
 }
 
 module _ {W H : ℕ} {g : Corner → ℕ → ℕ} (G : Grows W H g) where
-  -- a shape stored there is on the chip, and of two the wider is the lower
+  -- a shape stored there is on the chip, and each slot is a stair
   stored-reaches : (k : Direction) {c : Corner} {s : Shape} → CornerOn W H c → Stores W (g c) s → Reaches k W H c s
   stored-reaches k {c} {s} on z =
       let b = G .growing .solid _ _ _ _ (G .lists c on s .0 z .is) in
       fits-iff k c s .0 (record { wide = omega arith; high = omega arith; columns = b .2; rows = b .3 })
 
   pub grows-stairs : StairsOf W H g
-  grows-stairs c on = record {
-    fall = λ i j h k p q. fall i j h k p q (decLt (g c j) (g c i));
-    rows = λ j h. low j h (decLt 0 (g c j));
-    columns = λ j h k. narrow j h k (decLt 0 (g c j));
-  }
-    where
-      fall : (i j : ℕ) → i < j → j < W → 1 ≤ g c i → 1 ≤ g c j → Dec (g c j < g c i) → g c j < g c i
-      fall i j h k p q (yes l) = l
-      fall i j h k p q (no l) =
-          let x = G .lists c on (shape (suc i) (g c i)) .0 (byte-stores W (g c) i (omega arith) p) in
-          let y = G .lists c on (shape (suc j) (g c j)) .0 (byte-stores W (g c) j k q) in
-          absurd (omega (arith, y .least _ _ (x .is) (omega arith) (omega arith)))
-
-      low : (j : ℕ) → j < W → Dec (0 < g c j) → g c j ≤ H - c .y .0
-      low j h (yes p) = omega (arith, stored-reaches Vertical on (byte-stores W (g c) j h p) .3)
-      low j h (no p) = omega arith
-
-      narrow : (j : ℕ) → j < W → W - c .x .0 < suc j → Dec (0 < g c j) → g c j ≡ 0
-      narrow j h k (yes p) = absurd (omega (arith, stored-reaches Vertical on (byte-stores W (g c) j h p) .2))
-      narrow j h k (no p) = omega arith
+  grows-stairs c on = minimal-stair c (g c) (rising (G .growing) (c .x .0) (c .y .0)) (G .lists c on)
 
   -- Lemma 1 of document 000, and more: of the shapes stored at a corner that end within a room round one stored further on the highest
   highest-within : (k : Direction) (c0 c : Corner) (o : Shape) (b e : ℕ) → CornerOn W H c0 → Stores W (g c0) o → c .x .0 ≤ c0 .x .0 → c .y .0 ≤ c0 .y .0

@@ -1,15 +1,19 @@
--- The stair test says what 01 says of a stair: each part of it is a bounded search. Assumes nothing.
+-- The stair test says what 01 says of a stair: each part of it is a bounded search. And what is undominated at a corner is a stair. Assumes nothing.
+use mathlib.Core.Path.{_≡_}
 use mathlib.Core.Logic.{_⊎_, inl, inr, ⊎-elim, _↔_}
 use mathlib.Core.Bool.{So, _||_}
-use Prim.Native.Nat.{ℕ, suc, _-_, _≤_, _<_}
+use Prim.Native.Nat.{ℕ, suc, _+_, _-_, _≤_, _<_}
 use native.Mathlib.Omega.{arith}
 use native.Mathlib.Decide.{decLe, decLt}
 use lib.Dec.{leb, ltb, eqb}
 use Rattle.rules.specs.declared.Corner.{Corner}
-use Rattle.rules.specs.Chip.{corner}
-use Rattle.rules.specs.Slot.{Stair, Stairs}
-use Rattle.rules.proofs.Test.{isStair, areStairs}
+use Rattle.rules.specs.declared.Shape.{Shape}
+use Rattle.rules.specs.Chip.{corner, shape}
+use Rattle.rules.specs.Slot.{Stores, Stair, Stairs}
+use Rattle.rules.proofs.Test.{Test, isStair, areStairs}
 use Rattle.rules.proofs.Searching.{and-iff, or-iff, all-iff, leb-iff, ltb-iff, eqb-iff, know}
+use Rattle.rules.proofs.Rooms.{Passes, Rising, Minimal}
+use Rattle.rules.proofs.Choosing.{byte-stores}
 
 module _ (W H : ℕ) (c : Corner) (g : ℕ → ℕ) where
   -- what the test asks of byte j
@@ -55,3 +59,27 @@ stairs-iff W H R n slots = (
 pub stairs-or-not : (W H R n : ℕ) (slots : ℕ → Corner → ℕ → ℕ) → Stairs W H R n slots ⊎ (Stairs W H R n slots → ⊥)
 stairs-or-not W H R n slots =
     let e = stairs-iff W H R n slots in ⊎-elim (λ t. inl (e .0 t)) (λ f. inr (λ s. f (e .1 s))) (know (areStairs W H R n slots))
+
+-- A slot that holds the undominated rooms of a test at its corner is a stair: of two the wider is the lower, and none reaches off the chip.
+pub minimal-stair : {W H : ℕ} {F : Test} (c : Corner) (g : ℕ → ℕ) → Rising W H F (c .x .0) (c .y .0)
+    → ((s : Shape) → Stores W g s ↔ Minimal (Passes F) (c .x .0) (c .y .0) (c .x .0 + s .w .0) (c .y .0 + s .h .0)) → Stair W H c g
+minimal-stair {W} {H} {F} c g G lists = record {
+  fall = λ i j h k p q. fall i j h k p q (decLt (g j) (g i));
+  rows = λ j h. low j h (decLt 0 (g j));
+  columns = λ j h k. narrow j h k (decLt 0 (g j));
+}
+  where
+    room : (j : ℕ) → j < W → 0 < g j → Minimal (Passes F) (c .x .0) (c .y .0) (c .x .0 + suc j) (c .y .0 + g j)
+    room j h p = lists (shape (suc j) (g j)) .0 (byte-stores W g j h p)
+
+    fall : (i j : ℕ) → i < j → j < W → 1 ≤ g i → 1 ≤ g j → Dec (g j < g i) → g j < g i
+    fall i j h k p q (yes l) = l
+    fall i j h k p q (no l) = absurd (omega (arith, room j k q .least _ _ (room i (omega arith) p .is) (omega arith) (omega arith)))
+
+    low : (j : ℕ) → j < W → Dec (0 < g j) → g j ≤ H - c .y .0
+    low j h (yes p) = omega (arith, G .solid _ _ (room j h p .is))
+    low j h (no p) = omega arith
+
+    narrow : (j : ℕ) → j < W → W - c .x .0 < suc j → Dec (0 < g j) → g j ≡ 0
+    narrow j h k (yes p) = absurd (omega (arith, G .solid _ _ (room j h p .is)))
+    narrow j h k (no p) = omega arith
