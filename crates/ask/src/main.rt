@@ -1,4 +1,6 @@
 // Answers the requests of docs/ASK.md: reads them from standard input, a line at a time, and writes the answers.
+#![tactic(auto)]
+
 ghost use Rattle.std.specs.Prelude.{◌≤◌, length};
 ghost use Rattle.keeping.specs.Lent.{Lent};
 ghost use Rattle.ask.specs.Reading.{Inside};
@@ -19,7 +21,7 @@ const ANSWER_SIZE: usize = 16_384;
 
 // Of the bytes read, those from `from` to `to` are not served yet, and the line that they begin goes to `end`. It is long
 // if its start had no room and is dropped already. The input may be over, and it is too where it could not be read.
-#[derive(Drop)]
+#[derive(Clone, Copy)]
 struct Reading {
     from: usize,
     end: usize,
@@ -30,14 +32,14 @@ struct Reading {
 }
 
 // What is held after a line, and whether its answer was written.
-#[derive(Drop)]
+#[derive(Clone, Copy)]
 struct Told {
     held: Held,
     written: bool,
 }
 
 // What is read and held after a line, and whether to go on.
-#[derive(Drop)]
+#[derive(Clone, Copy)]
 struct Turn {
     reading: Reading,
     held: Held,

@@ -11,7 +11,7 @@ use words::Why;
 const MOST_NUMBERS: usize = 3;
 
 // What stands behind an answer's numbers.
-#[derive(Drop)]
+#[derive(Clone, Copy)]
 pub enum Shown {
     Nothing,
     Design,
@@ -23,7 +23,7 @@ pub enum Shown {
 
 // Whether a line is a request, the design that is then held, and of the answer the first `count` of these numbers, and what
 // stands behind them.
-#[derive(Drop)]
+#[derive(Clone, Copy)]
 pub struct Answer {
     pub why: Why,
     pub design: Design,

@@ -1,4 +1,6 @@
 // Serves the requests of docs/ASK.md, a line at a time: what is held and lent is kept, and the services are asked over it.
+#![tactic(auto)]
+
 mod answers;
 mod looking;
 mod names;
@@ -17,7 +19,7 @@ use words::is_fine;
 pub use words::{Why, next_of};
 
 // What is held after a line, and the length of its answer.
-#[derive(Drop)]
+#[derive(Clone, Copy)]
 pub struct Served {
     pub held: Held,
     pub length: usize,

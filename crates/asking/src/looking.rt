@@ -9,7 +9,7 @@ use telling::{put_byte, put_hex, put_word};
 use words::{Why, is_fine, numbers_in, words};
 
 // Where a slot starts, if the design has it.
-#[derive(Drop)]
+#[derive(Clone, Copy)]
 enum Found {
     At(usize),
     Nothing,

@@ -2,7 +2,7 @@
 use keeping::is_kept;
 use words::{Why, is_among, request_among};
 
-#[derive(Drop)]
+#[derive(Clone, Copy)]
 pub enum Service {
     Read,
     Write,

@@ -13,7 +13,7 @@ use spelling::{Asked, edit_in};
 use words::{MOST_SAID, bytes_in, is_fine, word};
 
 // The design that is held after a line, and the length of its answer.
-#[derive(Drop)]
+#[derive(Clone, Copy)]
 pub struct Answered {
     pub design: Design,
     pub length: usize,

@@ -1,4 +1,6 @@
 // The blocks of the chip's columns, and what a region has of a block: all its rows, some of them, or none.
+#![tactic(auto)]
+
 ghost use Rattle.std.specs.Prelude.{◌≡◌, ◌<◌, ◌≤◌, ◌&&◌, nat_le, nat_lt};
 ghost use Rattle.rules.specs.Chip.{kind_at, column_of, column, left, right, bottom, top, covers_block};
 ghost use Rattle.rules.specs.Design.{most_columns, most_rows};
@@ -10,7 +12,7 @@ use rules::{Chip, Columns, Corner, Need, Rectangle, Rows, Shape};
 use std::num::wrapping_add_usize;
 
 // Rows from low to before far.
-#[derive(Drop)]
+#[derive(Clone, Copy)]
 pub struct Span {
     pub low: Rows,
     pub far: Rows,

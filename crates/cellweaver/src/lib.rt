@@ -1,5 +1,7 @@
 // The planner's services, each for all inputs: its contract is one predicate of rules/specs/Service.antt. The tests come in the order in
 // which the rules give the refusals.
+#![tactic(auto)]
+
 ghost use Rattle.std.specs.Prelude.{◌≡◌, ◌≤◌, length};
 ghost use Rattle.rules.specs.declared.Reply.TheVariants.{Refused};
 ghost use Rattle.rules.specs.Design.{LawfulDesign, nodes, slots_of};

@@ -1,5 +1,7 @@
 // The services for C and Rust: a static library's functions on numbers and byte slices. A design is its bytes, read
 // first by each function. Each returns the reply's number, and puts what stands beside it into places that are lent.
+#![tactic(auto)]
+
 ghost use Rattle.std.specs.Prelude.{◌≡◌};
 ghost use Rattle.rules.specs.declared.Edit.TheVariants.{Turn};
 ghost use Rattle.rules.specs.Design.{LawfulDesign};

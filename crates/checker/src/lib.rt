@@ -1,4 +1,6 @@
 // The checker's judgement of a floorplan: from the design and the rows alone, with no lists.
+#![tactic(auto)]
+
 ghost use Rattle.std.specs.Prelude.{◌≡◌, ◌+◌, ◌*◌, ◌-◌, ◌≤◌, ◌<◌, length};
 ghost use Rattle.rules.specs.Design.{most_modules, LawfulDesign, most_tokens};
 ghost use Rattle.rules.specs.Check.{from_rows, is_on_chip, judged_cuts, judged_rows};
@@ -15,7 +17,7 @@ use rules::{
 use tokens::token_of;
 
 // A pass over the tokens: the extents of the things standing, how many there are, and whether the last cut was kept.
-#[derive(Drop)]
+#[derive(Clone, Copy)]
 struct Pass {
     pub extents: [Extent; MOST_TOKENS],
     pub standing: usize,

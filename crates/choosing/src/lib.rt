@@ -1,5 +1,7 @@
 // Choosing one floorplan from stored lists, whatever bytes they are: the root's shape of least area, at each cut the first pair, and
 // the rectangles that going down gives.
+#![tactic(auto)]
+
 ghost use Rattle.std.specs.Prelude.{◌≡◌, suc, ◌+◌, ◌-◌, ◌*◌, ◌≤◌, ◌<◌, max, length};
 ghost use Rattle.rules.specs.Chip.{corner};
 ghost use Rattle.rules.specs.Tree.{token_of};
@@ -15,14 +17,14 @@ use slots::{Board, slot_start};
 use tokens::token_of;
 
 // What the search for a pair finds: the left child's shape and the right child's, or none.
-#[derive(Drop)]
+#[derive(Clone, Copy)]
 pub enum Pair {
     Taken(Shape, Shape),
     None,
 }
 
 // How far going down has come: whether each cut so far has a pair, and the rectangles given to nodes and to modules.
-#[derive(Drop)]
+#[derive(Clone, Copy)]
 pub struct Descent {
     pub ok: bool,
     pub rooms: [Rectangle; MOST_TOKENS],
@@ -30,7 +32,7 @@ pub struct Descent {
 }
 
 // Where each module goes, if every cut has a pair.
-#[derive(Drop)]
+#[derive(Clone, Copy)]
 pub struct Layout {
     pub ok: bool,
     pub places: [Rectangle; MOST_MODULES],

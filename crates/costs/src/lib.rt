@@ -1,5 +1,7 @@
 // A score asked by slices: kinds and weights as two, nets as bytes n k1..kn one after another. What is no term or net there
 // becomes a term or a net that no score is given for.
+#![tactic(auto)]
+
 mod nets;
 mod terms;
 

@@ -8,7 +8,7 @@ ghost use Rattle.costs.specs.Places.{Copied, NetsFrom};
 use rules::{MOST_MODULES, MOST_NETS, Net};
 
 // The nets in their places, and how many there are.
-#[derive(Drop)]
+#[derive(Clone, Copy)]
 pub struct Taken {
     pub nets: [Net; MOST_NETS],
     pub count: usize,

@@ -2,6 +2,8 @@
 // vertical cut and a column under a horizontal one, so that the right child's corner beside a left shape is on the same
 // line. Of each line the right child's slots are filled once; each corner then lays filled slots over the least top
 // sides of its boxes.
+#![tactic(auto)]
+
 ghost use Rattle.std.specs.Prelude.{◌≡◌, suc, ◌+◌, ◌≤◌, ◌<◌, min, max, length};
 ghost use Rattle.rules.proofs.Test.{across};
 ghost use Rattle.slots.specs.Lent.{OnBoard, Lent};
@@ -16,11 +18,11 @@ use slots::{Board, slot_start};
 
 // A place along a line of corners, or how many places it has: columns under a vertical cut, rows under a horizontal
 // one.
-#[derive(Drop)]
+#[derive(Clone, Copy)]
 struct Place(usize);
 
 // A line of corners, or how many lines there are: rows under a vertical cut, columns under a horizontal one.
-#[derive(Drop)]
+#[derive(Clone, Copy)]
 struct Line(usize);
 
 // The most places that a line can have, in either direction.

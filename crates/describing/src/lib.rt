@@ -1,4 +1,6 @@
 // What is said of each region: where it is, what it needs and holds, its idle cells, and the blocks that it cuts or shares.
+#![tactic(auto)]
+
 mod amounts;
 mod cutting;
 mod signs;

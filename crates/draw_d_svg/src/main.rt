@@ -1,4 +1,6 @@
 // The draw program on the design D, as SVG.
+#![tactic(auto)]
+
 fn main() {
     drawing::run_draw();
 }

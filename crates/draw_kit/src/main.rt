@@ -1,4 +1,6 @@
 // The draw program on the two-lane pad kit, where a region cuts a block.
+#![tactic(auto)]
+
 fn main() {
     drawing::run_draw();
 }

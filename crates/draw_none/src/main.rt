@@ -1,4 +1,6 @@
 // The draw program on a design that has no placement: it says so.
+#![tactic(auto)]
+
 fn main() {
     drawing::run_draw();
 }

@@ -13,7 +13,7 @@ pub const ROWS_SIZE: usize = 4 * MOST_MODULES;
 const MOST_BYTE: usize = 255;
 
 // The first line: `text LENGTH` or `svg LENGTH`, if it says so, with the number of the design's bytes.
-#[derive(Drop)]
+#[derive(Clone, Copy)]
 pub struct Header {
     pub good: bool,
     pub svg: bool,
@@ -21,7 +21,7 @@ pub struct Header {
 }
 
 // The first line of the plan's text: `plan 0 W H`, or `plan NUMBER POSITION`, if it says so.
-#[derive(Drop)]
+#[derive(Clone, Copy)]
 pub struct Plan {
     pub good: bool,
     pub number: usize,

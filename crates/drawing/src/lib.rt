@@ -1,5 +1,7 @@
 // What the draw program does with its input: a header line, a design's bytes and the plan program's text. It draws the plan's
 // rows if the checker passes them, and says otherwise why nothing is drawn.
+#![tactic(auto)]
+
 mod input;
 mod refusing;
 

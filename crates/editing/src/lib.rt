@@ -1,4 +1,6 @@
 // What an edit asks for: whether it names a place, the design with its one change, and the node that is changed.
+#![tactic(auto)]
+
 ghost use Rattle.std.specs.Prelude.{◌≡◌};
 ghost use Rattle.std.proofs.Math.Bool.{So};
 ghost use Rattle.rules.specs.Design.{LawfulDesign};

@@ -1,4 +1,6 @@
 // The extent of things on the chip: the least left and bottom, the greatest right and top.
+#![tactic(auto)]
+
 ghost use Rattle.std.specs.Prelude.{◌≡◌, min, max};
 ghost use Rattle.rows.specs.Row.{Bytes};
 ghost use Rattle.extents.specs.Sides.{extent_of, together};
@@ -6,7 +8,7 @@ ghost use Rattle.extents.specs.Sides.{extent_of, together};
 use rules::{Columns, Corner, Rectangle, Rows};
 
 // The sides of what lies somewhere: the least left and bottom, the greatest right and top.
-#[derive(Drop)]
+#[derive(Clone, Copy)]
 pub struct Extent {
     pub low: Corner,
     pub far: Corner,

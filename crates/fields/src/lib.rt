@@ -1,4 +1,6 @@
 // Which number of a design stands where in its bytes, and what it is called.
+#![tactic(auto)]
+
 mod names;
 
 ghost use Rattle.std.specs.Prelude.{◌≡◌};
@@ -10,7 +12,7 @@ use rules::MOST_COLUMNS;
 
 // The numbers of a design, in the order of its bytes, and what follows them. Columns and modules are counted from 0, as everywhere;
 // a token is said as the first, second .. of so many.
-#[derive(Drop)]
+#[derive(Clone, Copy)]
 pub enum Field {
     Form,
     Width,
@@ -26,7 +28,7 @@ pub enum Field {
 }
 
 // A number among those of the bytes, counted from 0, and the position where it begins.
-#[derive(Drop)]
+#[derive(Clone, Copy)]
 pub struct Place {
     pub index: usize,
     pub at: usize,
@@ -138,7 +140,7 @@ pub fn field_of(w: usize, m: usize, n: usize) -> Field
 }
 
 // W and m as the bytes say them, 0 where they do not.
-#[derive(Drop)]
+#[derive(Clone, Copy)]
 pub struct Sizes {
     pub width: usize,
     pub modules: usize,

@@ -1,5 +1,7 @@
 // Turns text typed in hexadecimal, on standard input, into the bytes that it says. The first byte of the output is d, and the bytes
 // follow; or r, and a line follows that says what is wrong. There is no output where the input could not be read.
+#![tactic(auto)]
+
 use libc::STDOUT_FILENO;
 use taking::{say_unread, take_all};
 use typed::answer_text;

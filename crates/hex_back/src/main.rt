@@ -1,6 +1,8 @@
 // Turns the bytes of a design, on standard input, into text typed in hexadecimal, each number with a comment. The first byte of the
 // output is d, and the text follows; or r, and a line follows that says what is wrong. There is no output where the input could not
 // be read.
+#![tactic(auto)]
+
 use libc::STDOUT_FILENO;
 use taking::{say_unread, take_all};
 use typed::answer_back;

@@ -1,5 +1,7 @@
 // Turns many texts into bytes and back. A case on standard input is two bytes with its length, the low one first, and then a text. For
 // each is printed what is wrong with it, or the text that its bytes are turned back into and whether that says the same bytes.
+#![tactic(auto)]
+
 ghost use Rattle.std.specs.Prelude.{◌+◌, ◌≤◌, ◌<◌, length};
 
 use check::same;

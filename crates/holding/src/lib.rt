@@ -1,4 +1,6 @@
 // What a rectangle on the chip holds, counted column by column, and whether it suits a module.
+#![tactic(auto)]
+
 ghost use Rattle.std.specs.Prelude.{◌≡◌, ◌*◌, ◌≤◌, ◌<◌};
 ghost use Rattle.std.proofs.Math.Bool.{So};
 ghost use Rattle.rules.specs.Chip.{OnChip, holds};

@@ -1,4 +1,6 @@
 // What is held between requests, a design, lent work and lent rows, and the requests that change it: they have no answer.
+#![tactic(auto)]
+
 mod requests;
 
 ghost use Rattle.std.specs.Prelude.{◌≤◌, ◌≡◌, length};
@@ -11,7 +13,7 @@ use spelling::{design_in, no_design};
 use words::{Why, is_fine, lend, poke};
 
 // What is held: a design, and how many bytes of work and of rows are lent.
-#[derive(Drop)]
+#[derive(Clone, Copy)]
 pub struct Held {
     pub design: Design,
     pub work: usize,
@@ -19,7 +21,7 @@ pub struct Held {
 }
 
 // What a line comes to: it asks something else, or it is fine or bad; and what is then held.
-#[derive(Drop)]
+#[derive(Clone, Copy)]
 pub struct Kept {
     pub other: bool,
     pub why: Why,

@@ -1,7 +1,7 @@
 // What a line asks to be held or lent.
 use words::{is_among, request_among};
 
-#[derive(Drop)]
+#[derive(Clone, Copy)]
 pub enum Request {
     Nothing,
     Design,

@@ -1,4 +1,6 @@
 // The tests of a design handed over as a value, which every service runs first: 01's limits, then its tree rules, in file order.
+#![tactic(auto)]
+
 ghost use Rattle.std.specs.Prelude.{◌≡◌, ◌*◌, ◌≤◌, ◌<◌, leb};
 ghost use Rattle.rules.specs.Search.{all};
 ghost use Rattle.rules.specs.Chip.{kind_at};
@@ -13,14 +15,14 @@ use rules::{
 use tokens::token_of;
 
 // Of the things that the tokens read so far leave standing: the modules in them, and how many things they are.
-#[derive(Drop)]
+#[derive(Clone, Copy)]
 pub struct Stack {
     pub seen: [bool; MOST_MODULES],
     pub count: usize,
 }
 
 // What a token does: it is refused and the stack stays, or it passes and this stack stands.
-#[derive(Drop)]
+#[derive(Clone, Copy)]
 pub struct Step {
     pub ok: bool,
     pub stack: Stack,

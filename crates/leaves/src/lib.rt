@@ -1,4 +1,6 @@
 // A leaf's slot at one corner, listed from its need by the walk along the stair.
+#![tactic(auto)]
+
 mod room;
 
 ghost use Rattle.std.specs.Prelude.{◌<◌};
@@ -11,7 +13,7 @@ use rules::{Chip, Columns, Corner, Need, Rows};
 use slots::{Board, clear, slot_start};
 
 // What stepping down leaves: a room that no longer suits, or no rows.
-#[derive(Drop)]
+#[derive(Clone, Copy)]
 enum Step {
     At(Room),
     UsedUp,

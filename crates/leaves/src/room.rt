@@ -11,7 +11,7 @@ use slots::Board;
 // A room at a corner. Of a column of blocks so many stand whole in its rows, and the last of these ends at the edge,
 // counted in rows from the corner; without any the edge is 0. `row` is what one row can take away: a CLB for each CLB
 // column, and a block for each block column.
-#[derive(Drop)]
+#[derive(Clone, Copy)]
 pub struct Room {
     pub rows: Rows,
     blocks: usize,

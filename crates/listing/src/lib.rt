@@ -1,6 +1,8 @@
 // All nodes of a design, or those on the way of an edit, listed child before parent. Where all nodes are listed, a
 // cut's children have their own lists, and it is listed by the source's short scan; an edit may stand on a stranger's
 // stairs, and pairs all stored shapes.
+#![tactic(auto)]
+
 ghost use Rattle.std.specs.Prelude.{◌≤◌, ◌<◌, length};
 ghost use Rattle.rules.specs.Design.{LawfulDesign, nodes};
 ghost use Rattle.rules.specs.Service.{work_of};
@@ -13,7 +15,7 @@ use slots::{Board, board_of};
 use tokens::token_of;
 
 // How a cut is listed: by the scan over its children's own lists, or by all pairs of the shapes stored there.
-#[derive(Drop)]
+#[derive(Clone, Copy)]
 enum By {
     Scan,
     Pairs,

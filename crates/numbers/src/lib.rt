@@ -1,4 +1,6 @@
 // Seven-bit numbers: taken by a reader that keeps its place in the caller's bytes, and put into bytes that are lent.
+#![tactic(auto)]
+
 ghost use Rattle.std.specs.Prelude.{◌≡◌, ◌+◌, ◌≤◌, ◌<◌, length};
 ghost use Rattle.rules.specs.Design.{most_number};
 ghost use Rattle.rules.specs.Bytes.{number_bytes, number_at, second_byte, third_byte};
@@ -8,7 +10,7 @@ ghost use Rattle.numbers.specs.Replies.{reply_of};
 use rules::{MOST_NUMBER, Refusal};
 
 // The answer to taking a number: its value and the position after it, or the refusal, kind and position together.
-#[derive(Drop)]
+#[derive(Clone, Copy)]
 pub enum NumberReply {
     Number { value: usize, next: usize },
     Refused(Refusal),
@@ -76,7 +78,7 @@ fn number_at(s: &[u8], at: usize) -> NumberReply
 }
 
 // The caller's bytes, and the reader's place in them.
-#[derive(Drop)]
+#[derive(Clone, Copy)]
 pub struct Reader<'a> {
     pub src: &'a [u8],
     pub at: usize,

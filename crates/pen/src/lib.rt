@@ -1,4 +1,6 @@
 // Lines of a drawing, written one after the other to standard output, and whether every one was written whole.
+#![tactic(auto)]
+
 ghost use Rattle.std.specs.Prelude.{◌≤◌, length};
 
 use libc::STDOUT_FILENO;
@@ -17,7 +19,7 @@ const WORDS_LEFT: usize = 44;
 
 // Lines are text, or they are SVG at height y; dry, they are counted and not written. It is fine as long as every line was
 // written whole. It has said so many cuts.
-#[derive(Drop)]
+#[derive(Clone, Copy)]
 pub struct Pen {
     pub svg: bool,
     pub dry: bool,

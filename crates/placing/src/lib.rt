@@ -1,4 +1,6 @@
 // One floorplan from stored lists that are all stairs: the root's shape, the rectangles that going down gives, and rows out.
+#![tactic(auto)]
+
 ghost use Rattle.std.specs.Prelude.{◌≡◌, ◌++◌, ◌+◌, ◌*◌, ◌≤◌, ◌<◌, length, drop};
 ghost use Rattle.std.proofs.lemmas.List.Edits.{sets};
 ghost use Rattle.rules.specs.Search.{all};

@@ -1,4 +1,6 @@
 // The plan program.
+#![tactic(auto)]
+
 fn main() {
     running::run_plan();
 }

@@ -1,5 +1,7 @@
 // Runs what the plan program runs on many inputs. A case on standard input is two bytes with its length, the low one
 // first, and then its bytes; the texts of all cases are printed one after the other.
+#![tactic(auto)]
+
 ghost use Rattle.std.specs.Prelude.{◌+◌, ◌*◌, ◌≤◌, ◌<◌, length};
 ghost use Rattle.rules.specs.Design.{most_modules};
 ghost use Rattle.printing.specs.Text.{text_size};

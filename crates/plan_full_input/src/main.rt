@@ -1,4 +1,6 @@
 // The plan program on as many bytes as it reads.
+#![tactic(auto)]
+
 fn main() {
     running::run_plan();
 }

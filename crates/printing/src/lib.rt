@@ -1,4 +1,6 @@
 // The plan program's text: put into bytes that are lent, byte for byte as the rules have it.
+#![tactic(auto)]
+
 ghost use Rattle.std.specs.Prelude.{[], ◌∷◌, ◌+◌, ◌*◌, ◌≤◌, ◌<◌, length};
 ghost use Rattle.rules.specs.Program.{decimal, figures, module_line, module_lines, plan_line, plan_text};
 ghost use Rattle.putting.specs.Put.{Put};

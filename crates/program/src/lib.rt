@@ -1,4 +1,6 @@
 // What the plan program does with its input, on lent bytes: it reads the design, plans it, and puts the text.
+#![tactic(auto)]
+
 ghost use Rattle.std.specs.Prelude.{◌*◌, ◌≤◌, length};
 ghost use Rattle.rules.specs.Design.{most_modules};
 ghost use Rattle.rules.specs.Program.{program_input};

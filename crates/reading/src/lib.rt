@@ -1,4 +1,6 @@
 // Reading a design from bytes: each number is judged as it is read, and the first refusal is the reply.
+#![tactic(auto)]
+
 ghost use Rattle.std.specs.Prelude.{◌≡◌, [], ◌≤◌, eqb};
 ghost use Rattle.rules.specs.declared.Refusal.TheVariants.{WrongForm};
 ghost use Rattle.rules.specs.Design.{most_columns, most_modules};
@@ -22,7 +24,7 @@ const NO_NEED: Need = Need {
 };
 
 // How far the reading has come: the design so far and the position after it, or a refusal beside zeros.
-#[derive(Drop)]
+#[derive(Clone, Copy)]
 pub struct Stage {
     pub reply: Reply,
     pub next: usize,
@@ -30,7 +32,7 @@ pub struct Stage {
 }
 
 // A need, beside the last number that was taken for it; or no need, beside the refusal.
-#[derive(Drop)]
+#[derive(Clone, Copy)]
 pub struct OneNeed {
     pub number: NumberReply,
     pub need: Need,

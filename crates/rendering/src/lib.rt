@@ -1,4 +1,6 @@
 // A floorplan as an SVG drawing: the chip's columns and blocks, the regions over them, the box, and what is said of each region.
+#![tactic(auto)]
+
 mod chip;
 mod elements;
 mod frame;

@@ -27,7 +27,7 @@ const LEAST_WIDTH: usize = 800;
 const MARGIN: usize = 24;
 
 // A rectangle of the sheet, in pixels.
-#[derive(Drop)]
+#[derive(Clone, Copy)]
 pub struct Area {
     pub x: usize,
     pub y: usize,

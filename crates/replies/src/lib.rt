@@ -1,11 +1,13 @@
 // The number of each reply.
+#![tactic(auto)]
+
 ghost use Rattle.std.specs.Prelude.{◌≡◌};
 ghost use Rattle.rules.specs.Reply.{refusal};
 
 use rules::Refusal;
 
 // A refusal's number, and beside it the position, module or token's position that it holds, or 0.
-#[derive(Drop)]
+#[derive(Clone, Copy)]
 pub struct Numbered(pub usize, pub usize);
 
 // The number of a refusal, and what is said beside it.

@@ -1,4 +1,6 @@
 // A module's row: the four bytes x, y, w, h that its rectangle is stored in.
+#![tactic(auto)]
+
 ghost use Rattle.std.specs.Prelude.{◌≡◌, ◌+◌, ◌*◌, ◌≤◌, ◌<◌, length};
 ghost use Rattle.std.proofs.lemmas.List.Edits.{sets};
 ghost use Rattle.rules.specs.Choice.{row_of};

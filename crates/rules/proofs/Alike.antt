@@ -4,7 +4,7 @@ use mathlib.Core.Path.{◌≡◌, refl, ◌∙◌}
 use mathlib.Core.Logic.{◌⊎◌, inl, inr}
 use mathlib.Core.Bool.{Bool, ◌||◌, So}
 use mathlib.Core.List.{List, [], ◌∷◌}
-use Prim.Native.Nat.{ℕ, suc, ◌-◌, ◌≤◌, ◌<◌}
+use Prim.Native.Nat.{ℕ, suc, ◌≤◌, ◌<◌}
 use native.Mathlib.Omega.{arith}
 use lib.Dec.{eqb}
 use Rattle.rules.specs.declared.Direction.{Direction}
@@ -12,7 +12,6 @@ use Rattle.rules.specs.declared.Token.TheVariants.{Cut, Module}
 use Rattle.rules.specs.declared.Design.{Design}
 use Rattle.rules.specs.Tree.{Tree, leaf, cut, position, has, spans, stands, things}
 use Rattle.rules.specs.Design.{need_at, token_at, nodes, standing_of, node_at, root, LawfulDesign}
-use Rattle.rules.specs.Edit.{turned}
 use Rattle.rules.proofs.Searching.{eqb_iff, or_iff}
 use Rattle.rules.proofs.Standing.{Reading, none_read, module_read, cut_read, read_stands, last_is, earlier}
 use Rattle.rules.proofs.Nodes.{lawful_tree}

@@ -19,7 +19,6 @@ use Rattle.rules.specs.Tree.{Tree, leaf, cut, position}
 use Rattle.rules.specs.Slot.{Stores, ListsAt, CornerOn}
 use Rattle.rules.specs.Design.{nodes, node_at, root, root_slot, SuitsOf, ListsOf, given_for, OwnLists, width_of, height_of}
 use Rattle.rules.specs.Bench.{Example, lists, contains, slot_is, pairs_to, plans_to, has_none, reads, OneOf, PairsTo, Says, AllSay, table}
-use Rattle.rules.proofs.Test.{stored}
 use Rattle.rules.proofs.Searching.{test-iffs}
 use Rattle.rules.proofs.Standing.{Part}
 use Rattle.rules.proofs.Nodes.{part_node, last_node}

@@ -12,7 +12,7 @@ use borrow.Author.Tests.{ltb-true, ltb-false}
 use Rattle.rules.specs.declared.Corner.{Corner}
 use Rattle.rules.specs.declared.Shape.{Shape}
 use Rattle.rules.specs.declared.Direction.{Direction}
-use Rattle.rules.specs.Search.{any, least}
+use Rattle.rules.specs.Search.{any}
 use Rattle.rules.specs.Chip.{shape}
 use Rattle.rules.specs.Slot.{Empty, Stores}
 use Rattle.rules.specs.Choice.{Chosen, Pair, Taken, beside}

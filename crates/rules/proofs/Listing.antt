@@ -12,7 +12,6 @@ use borrow.Author.Tests.{ltb-true, lt-ltb}
 use Rattle.rules.specs.declared.Corner.{Corner}
 use Rattle.rules.specs.declared.Shape.{Shape}
 use Rattle.rules.specs.declared.Rectangle.{Rectangle}
-use Rattle.rules.specs.Search.{least}
 use Rattle.rules.specs.Chip.{shape}
 use Rattle.rules.specs.Tree.{Tree}
 use Rattle.rules.specs.Shape.{ShapeAt, Dominates, Undominated, Listed}

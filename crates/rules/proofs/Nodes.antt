@@ -16,7 +16,7 @@ use Rattle.rules.specs.declared.Reply.TheVariants.{Done, Refused}
 use Rattle.rules.specs.Tree.{Tree, leaf, cut, position, has, Standing, refused, things, last}
 use Rattle.rules.specs.Placement.{Placement, Follows, KeptAt}
 use Rattle.rules.specs.Design.{most_modules, token_at, nodes, in_range, within_limits, standing_of, node_at, root, tree_test, value_test, LawfulDesign}
-use Rattle.rules.proofs.Standing.{Once, Part, whole, in_left, in_right, Among, here, Reading, Node, is_leaf, is_cut, was_read, node_among, among_node, last_position, node_is, leaf_of, module_once, one_stands}
+use Rattle.rules.proofs.Standing.{Once, Part, whole, in_left, in_right, Among, here, Reading, Node, is_leaf, is_cut, was_read, node_among, among_node, last_position, node_is, leaf_of, module_once, one_stands, there}
 use Rattle.rules.proofs.Searching.{test-iffs}
 
 -- a design's tree test: 6 is never the answer
@@ -79,6 +79,7 @@ lawful_tree d e =
 
 only_among : {u t : Tree} → Among u (t ∷ []) → Part u t
 only_among (here p) = p
+only_among {u = u} {t = t} (there x3) = elim x3 [ ]
 
 -- the nodes of a lawful design are the parts of its root
 module _ (d : Design) (lawful : LawfulDesign d) where
@@ -103,10 +104,11 @@ module _ (d : Design) (lawful : LawfulDesign d) where
   pub module_token : (k : ℕ) → k < d.modules → (t : ℕ) × (t < nodes d) × (token_at d t ≡ Module k)
   module_token k h =
       let (t, p) = leaf_of (root d) k (((lawful_tree d lawful).modules k).1 h) in let (b, q) = part_node (leaf t k) p in
-      (t, b, says t (rw q (node_at_lem t b)))
+      (t, b, says t q (node_at_lem t b))
     where
-      says : (t : ℕ) → Node d.modules (token_at d) t (leaf t k) → token_at d t ≡ Module k
-      says t (is_leaf e h) = e
+      says : (t : ℕ) {u : Tree} → leaf t k ≡ u → Node d.modules (token_at d) t u → token_at d t ≡ Module k
+      says t q (is_leaf e h) = cc
+      says t q (is_cut e c) = cc
 
   pub module_only : (k s t : ℕ) → s < nodes d → t < nodes d → token_at d s ≡ Module k → token_at d t ≡ Module k → s ≡ t
   module_only k s t h g a b = go (dec_lt s t) (dec_lt t s)

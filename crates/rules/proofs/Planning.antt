@@ -12,7 +12,7 @@ use Rattle.rules.specs.declared.Shape.{Shape}
 use Rattle.rules.specs.declared.Rectangle.{Rectangle}
 use Rattle.rules.specs.declared.Direction.{Direction}
 use Rattle.rules.specs.declared.Direction.TheVariants.{Vertical, Horizontal}
-use Rattle.rules.specs.Chip.{OnChip, corner, shape, left, right, bottom, top}
+use Rattle.rules.specs.Chip.{OnChip, corner, left, right, bottom, top}
 use Rattle.rules.specs.Tree.{Tree, leaf, cut, has}
 use Rattle.rules.specs.Placement.{Placement, Follows, Lawful, Covers, ShareNoCell, begins, ends, box, area}
 use Rattle.rules.specs.Shape.{Realizes, ShapeAt, Listed}

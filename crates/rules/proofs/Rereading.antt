@@ -3,7 +3,7 @@
 use mathlib.Core.Path.{◌≡◌}
 use mathlib.Core.Bool.{Bool, So}
 use mathlib.Core.List.{List, [], ◌∷◌, ◌++◌}
-use Prim.Native.Nat.{ℕ, zero, suc, ◌+◌, ◌-◌, ◌≤◌, ◌<◌}
+use Prim.Native.Nat.{ℕ, zero, suc, ◌≤◌, ◌<◌}
 use native.Mathlib.Omega.{arith}
 use Rattle.rules.specs.declared.Need.{Need}
 use Rattle.rules.specs.declared.Refusal.{Refusal}

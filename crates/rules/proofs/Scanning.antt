@@ -12,7 +12,7 @@ use Rattle.rules.specs.declared.Shape.{Shape}
 use Rattle.rules.specs.declared.Rectangle.{Rectangle}
 use Rattle.rules.specs.declared.Direction.{Direction}
 use Rattle.rules.specs.declared.Direction.TheVariants.{Vertical, Horizontal}
-use Rattle.rules.specs.Chip.{OnChip, corner, shape, left, right, top}
+use Rattle.rules.specs.Chip.{OnChip, shape, right, top}
 use Rattle.rules.specs.Tree.{Tree, cut}
 use Rattle.rules.specs.Shape.{Dominates, Undominated, Listed}
 use Rattle.rules.specs.Slot.{Stores, CornerOn, ListsAt, Stair}

@@ -148,6 +148,7 @@ module _ {m : ℕ} {token : ℕ → Token} where
   -- and every part of what stands is the node of its own position
   pub among_node : {n : ℕ} {ts : List Tree} {u : Tree} → Reading m token n ts → Among u ts
       → (position u < n) × (u ≡ node m token (position u))
+  among_node {u = u} none_read x4 = elim x4 [ ]
   among_node (module_read r e b f) (here whole) = (omega arith, last_is (module_read r e b f))
   among_node (module_read r e b f) (there a) = let (h, q) = among_node r a in (omega arith, q)
   among_node (cut_read r e) (here whole) = (omega arith, last_is (cut_read r e))
@@ -232,7 +233,7 @@ record Fair (m n : ℕ) (ts : List Tree) : Type 0 where
   below : (k : ℕ) → So (stands ts k) → k < m
   size : n + length ts ≡ 2 * count m (stands ts)
 
-fair : {m n : ℕ} {token : ℕ → Token} {ts : List Tree} → Reading m token n ts → Fair m n ts
+fair : {m : ℕ} {token : ℕ → Token} {n : ℕ} {ts : List Tree} → Reading m token n ts → Fair m n ts
 unfolding OnceAll Once stands has
 fair {m} none_read = record { once = tt; below = λ k t. absurd_so t; size = omega (arith, count_none m) }
 fair {m} (module_read {n = n} {k = k} {ts = ts} r e h f) = let F = fair r in record {

@@ -1,5 +1,6 @@
 // The words of the planner: the types that its rules and its code share. The rules themselves are in specs/, in the order
 // of the scope document; what follows from them is in proofs/.
+#![tactic(auto)]
 
 // The limits of the chip and of the modules, once for all arrays and tests.
 pub const MOST_COLUMNS: usize = 64;
@@ -20,36 +21,36 @@ pub const MOST_TERMS: usize = 8;
 pub const MOST_NETS: usize = 32;
 
 // A number of columns: a width, or a place counted from the left. It never stands for rows.
-#[derive(Drop)]
+#[derive(Clone, Copy)]
 pub struct Columns(pub usize);
 
 // A number of rows: a height, or a place counted from below. It never stands for columns.
-#[derive(Drop)]
+#[derive(Clone, Copy)]
 pub struct Rows(pub usize);
 
 // The lower left corner of something on the chip.
-#[derive(Drop)]
+#[derive(Clone, Copy)]
 pub struct Corner {
     pub x: Columns,
     pub y: Rows,
 }
 
 // How wide and how high something is.
-#[derive(Drop)]
+#[derive(Clone, Copy)]
 pub struct Shape {
     pub w: Columns,
     pub h: Rows,
 }
 
 // (x, y, w, h)
-#[derive(Drop)]
+#[derive(Clone, Copy)]
 pub struct Rectangle {
     pub corner: Corner,
     pub shape: Shape,
 }
 
 // What a module needs, or what a rectangle holds, of each kind.
-#[derive(Drop)]
+#[derive(Clone, Copy)]
 pub struct Need {
     pub clbs: usize,
     pub rams: usize,
@@ -57,7 +58,7 @@ pub struct Need {
 }
 
 // A chip: its columns and rows, how high its blocks are, and each column's kind. Places beyond width are ignored.
-#[derive(Drop)]
+#[derive(Clone, Copy)]
 pub struct Chip {
     pub width: Columns,
     pub height: Rows,
@@ -66,7 +67,7 @@ pub struct Chip {
 }
 
 // A chip, the modules' needs and a slicing tree. Places beyond modules and 2 * modules - 1 are ignored.
-#[derive(Drop)]
+#[derive(Clone, Copy)]
 pub struct Design {
     pub chip: Chip,
     pub modules: usize,
@@ -75,14 +76,14 @@ pub struct Design {
 }
 
 // The two cuts: a vertical one has its children side by side, a horizontal one has them one above the other.
-#[derive(Drop)]
+#[derive(Clone, Copy)]
 pub enum Direction {
     Vertical,
     Horizontal,
 }
 
 // What a token says; Beyond is a value past the largest module's.
-#[derive(Drop)]
+#[derive(Clone, Copy)]
 pub enum Token {
     Cut(Direction),
     Module(usize),
@@ -90,14 +91,14 @@ pub enum Token {
 }
 
 // What to change.
-#[derive(Drop)]
+#[derive(Clone, Copy)]
 pub enum Edit {
     Change { module: usize, need: Need },
     Turn { position: usize },
 }
 
 // A term of the cost, with its weight.
-#[derive(Drop)]
+#[derive(Clone, Copy)]
 pub enum Term {
     Area(f64),
     Ratio(f64),
@@ -105,7 +106,7 @@ pub enum Term {
 }
 
 // A net: the modules that it joins. Places beyond count are ignored.
-#[derive(Drop)]
+#[derive(Clone, Copy)]
 pub struct Net {
     pub count: usize,
     pub modules: [u8; MOST_MODULES],
@@ -113,7 +114,7 @@ pub struct Net {
 
 // Every refusal, in the order of the numbers 1 to 16. It holds a position among the bytes (1 to 7), a module (12, 13)
 // or a token's position (14), where there is one.
-#[derive(Drop)]
+#[derive(Clone, Copy)]
 pub enum Refusal {
     Unfinished(usize),
     Malformed(usize),
@@ -134,42 +135,42 @@ pub enum Refusal {
 }
 
 // The answer of list and check, and of the value test; with a design beside it, of read and edit.
-#[derive(Drop)]
+#[derive(Clone, Copy)]
 pub enum Reply {
     Done,
     Refused(Refusal),
 }
 
 // What read and edit hand back: the answer, and the design beside it.
-#[derive(Drop)]
+#[derive(Clone, Copy)]
 pub struct Handed {
     pub reply: Reply,
     pub design: Design,
 }
 
 // The answer of write: how many bytes, or why none.
-#[derive(Drop)]
+#[derive(Clone, Copy)]
 pub enum Written {
     Bytes(usize),
     Refused(Refusal),
 }
 
 // The answer of plan and place: the box, or why there is none.
-#[derive(Drop)]
+#[derive(Clone, Copy)]
 pub enum Planned {
     Box(Shape),
     Refused(Refusal),
 }
 
 // A score: the running total, and the amount of the last term.
-#[derive(Drop)]
+#[derive(Clone, Copy)]
 pub struct Score {
     pub total: f64,
     pub last: f64,
 }
 
 // The answer of score: both values, or why there are none.
-#[derive(Drop)]
+#[derive(Clone, Copy)]
 pub enum Scored {
     Values(Score),
     Refused(Refusal),

@@ -1,5 +1,7 @@
 // The plan program whole: it reads its input, plans it and writes the text. `plan` does just this, and so does each
 // program that is run on one input more.
+#![tactic(auto)]
+
 use libc::STDOUT_FILENO;
 use printing::TEXT_SIZE;
 use program::{MOST_INPUT, plan_input};

@@ -1,4 +1,6 @@
 // Says what the plan program's answer to a design means: reads the design's bytes from standard input, as plan does, and prints a line.
+#![tactic(auto)]
+
 use libc::STDOUT_FILENO;
 use program::{MOST_INPUT, WORK};
 use rules::MOST_MODULES;

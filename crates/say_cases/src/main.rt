@@ -1,5 +1,7 @@
 // Runs what `say` runs on many inputs. A case on standard input is two bytes with its length, the low one first, and then its bytes;
 // the lines of all cases are printed one after the other.
+#![tactic(auto)]
+
 ghost use Rattle.std.specs.Prelude.{◌+◌, ◌≤◌, ◌<◌, length};
 
 use libc::{STDIN_FILENO, STDOUT_FILENO};

@@ -1,4 +1,6 @@
 // What the plan program's answer to some bytes means, in one line of plain words.
+#![tactic(auto)]
+
 mod faults;
 mod none;
 

@@ -9,7 +9,7 @@ use rules::{Chip, Design, Need, Rows};
 use telling::{put_number, put_word};
 
 // How far a sentence is put, and whether it says a kind yet.
-#[derive(Drop)]
+#[derive(Clone, Copy)]
 struct Put {
     at: usize,
     short: bool,

@@ -4,6 +4,8 @@
 // higher; under a horizontal cut it begins at the left shape's own width, and the walk goes up to wider ones, which are
 // lower. Within one right list boxes narrow by themselves, so they are held against the last box kept before it. Node t
 // is named to these functions for their contracts: where its slot stands is worked out once for a corner.
+#![tactic(auto)]
+
 ghost use Rattle.std.specs.Prelude.{◌≡◌, ◌+◌, ◌≤◌, ◌<◌, length};
 ghost use Rattle.rules.specs.declared.Direction.TheVariants.{Vertical, Horizontal};
 ghost use Rattle.slots.specs.Lent.{OnBoard, bytes_from};
@@ -51,7 +53,7 @@ fn first_after(work: &[u8], from: usize, a: usize, n: usize) -> usize
 
 // What is looked up among n bytes: the highest shape that is no higher than the left one, or n; and how many bytes
 // there are up to the lowest that is higher.
-#[derive(Drop)]
+#[derive(Clone, Copy)]
 struct Looked {
     found: usize,
     higher: usize,

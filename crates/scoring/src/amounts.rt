@@ -13,7 +13,7 @@ use rows::rectangle_at;
 use rules::{Columns, Corner, Design, MOST_NETS, Net, Rectangle, Rows, Shape};
 
 // What each kind of term counts, without its weight.
-#[derive(Drop)]
+#[derive(Clone, Copy)]
 pub struct Amounts {
     pub area: f64,
     pub ratio: f64,

@@ -1,4 +1,6 @@
 // The score of a floorplan in rows: whether terms and nets are lawful, the amounts, and the running total over the terms.
+#![tactic(auto)]
+
 mod amounts;
 mod nets;
 mod terms;

@@ -1,4 +1,6 @@
 // A floorplan as text: a row to a line, from above, with a sign for the module that has each cell.
+#![tactic(auto)]
+
 ghost use Rattle.std.specs.Prelude.{◌*◌, ◌≤◌, ◌<◌, length};
 ghost use Rattle.rules.specs.Design.{most_columns};
 ghost use Rattle.rows.specs.Row.{Bytes};

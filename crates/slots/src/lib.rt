@@ -1,4 +1,6 @@
 // Slots in the work bytes: where they start, how one is cleared, and how writing one leaves all others.
+#![tactic(auto)]
+
 ghost use Rattle.std.specs.Prelude.{◌≡◌, ◌+◌, ◌≤◌, length};
 ghost use Rattle.slots.specs.Size.{board_of};
 ghost use Rattle.slots.specs.Written.{none, Filled};
@@ -7,7 +9,7 @@ ghost use Rattle.slots.specs.Lent.{Addressed, start_on, most_work};
 use rules::{Columns, Corner, Design, Rows};
 
 // The chip's size, and how many of its rows are listed and so have slots.
-#[derive(Drop)]
+#[derive(Clone, Copy)]
 pub struct Board {
     pub width: Columns,
     pub height: Rows,

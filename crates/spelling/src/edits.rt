@@ -4,7 +4,7 @@ use rules::{Edit, Need};
 use words::{Why, count, is_fine, number_in, numbers_in, word, words};
 
 // An edit, if a line says one.
-#[derive(Drop)]
+#[derive(Clone, Copy)]
 pub enum Asked {
     Edit(Edit),
     Bad(Why),

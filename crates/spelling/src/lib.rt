@@ -1,4 +1,6 @@
 // Designs, edits and scores' terms and nets as words: taken from a line, and a design put into lent bytes.
+#![tactic(auto)]
+
 mod edits;
 mod said;
 mod scores;

@@ -5,21 +5,21 @@ use rules::{Chip, Columns, Design, MOST_COLUMNS, MOST_MODULES, MOST_TOKENS, Need
 use words::{Why, bytes_in, first_wrong, number_in, numbers_in, word, words};
 
 // A design, if a line says one.
-#[derive(Drop)]
+#[derive(Clone, Copy)]
 pub struct Said {
     pub why: Why,
     pub design: Design,
 }
 
 // A chip, if words say one.
-#[derive(Drop)]
+#[derive(Clone, Copy)]
 struct SaidChip {
     why: Why,
     chip: Chip,
 }
 
 // Needs, if a word says such.
-#[derive(Drop)]
+#[derive(Clone, Copy)]
 struct SaidNeeds {
     why: Why,
     needs: [Need; MOST_MODULES],

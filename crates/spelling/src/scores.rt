@@ -17,7 +17,7 @@ pub const NET_PLACES: usize = (MOST_NETS + 1) * (MOST_MODULES + 2);
 const KINDS: u8 = 3;
 
 // How many terms and how many bytes of nets are put, where the last net stands, and how many members it has.
-#[derive(Drop)]
+#[derive(Clone, Copy)]
 pub struct Put {
     pub terms: usize,
     pub bytes: usize,
@@ -27,7 +27,7 @@ pub struct Put {
 
 // What the next word is to be: one that begins a term or a net, a term's weight, or a member, which may as well be one that
 // begins something.
-#[derive(Drop)]
+#[derive(Clone, Copy)]
 enum Expected {
     Begin,
     Weight,
@@ -35,7 +35,7 @@ enum Expected {
 }
 
 // What is put of the words so far, or why they are wrong, and what the next one is to be.
-#[derive(Drop)]
+#[derive(Clone, Copy)]
 pub struct Taken {
     pub why: Why,
     pub put: Put,

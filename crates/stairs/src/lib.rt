@@ -1,4 +1,6 @@
 // The stair test that place and edit run over every slot in the work bytes.
+#![tactic(auto)]
+
 ghost use Rattle.std.specs.Prelude.{◌≡◌, suc, ◌+◌, ◌-◌, ◌≤◌, ◌<◌, min, length};
 ghost use Rattle.rules.specs.Search.{all};
 ghost use Rattle.rules.specs.Design.{most_rows};

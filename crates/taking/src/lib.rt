@@ -1,18 +1,20 @@
 // Bytes taken from standard input. A read that failed is told from the end of the input, so that nobody takes the front of
 // a design for the whole of it.
+#![tactic(auto)]
+
 ghost use Rattle.std.specs.Prelude.{◌≤◌, length};
 
 use libc::{EINTR, STDIN_FILENO};
 
 // How many bytes came, none at the end of the input, and whether a read failed.
-#[derive(Drop)]
+#[derive(Clone, Copy)]
 pub struct Taken {
     pub count: usize,
     pub failed: bool,
 }
 
 // What one read came to: it is tried again if a signal came before any byte did.
-#[derive(Drop)]
+#[derive(Clone, Copy)]
 struct Tried {
     again: bool,
     failed: bool,

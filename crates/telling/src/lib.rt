@@ -1,5 +1,7 @@
 // Answers as text in lent bytes. Each function puts its part at `at` and gives the position after it; what has no room is
 // left out, and there is room for every answer.
+#![tactic(auto)]
+
 mod bits;
 mod hash;
 

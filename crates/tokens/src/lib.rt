@@ -1,4 +1,6 @@
 // Tokens: what a number says as a token, told by one match, and what a cut is turned into.
+#![tactic(auto)]
+
 ghost use Rattle.std.specs.Prelude.{◌≡◌};
 ghost use Rattle.rules.specs.Tree.{token_of, number_of, is_cut, is_module};
 ghost use Rattle.rules.specs.Design.{most_modules};

@@ -1,5 +1,7 @@
 // The tree of a lawful design as positions: the left child of each cut, the leaf of a module, and the way from a node up to the root.
 // The right child of a cut is always the node just before it.
+#![tactic(auto)]
+
 ghost use Rattle.std.specs.Prelude.{◌≡◌, ◌+◌, ◌<◌, get_or};
 ghost use Rattle.std.proofs.Math.Bool.{So};
 ghost use Rattle.rules.specs.Tree.{is_cut};

@@ -7,7 +7,7 @@ use numbers::{NumberReply, take_number};
 use telling::{put_byte, put_number, put_word};
 
 // How far the bytes are put: the next number is the so-manieth, begins at `from`, and its line at `at`.
-#[derive(Drop)]
+#[derive(Clone, Copy)]
 struct Put {
     index: usize,
     from: usize,

@@ -2,7 +2,7 @@
 ghost use Rattle.std.specs.Prelude.{◌<◌};
 
 // What a byte of text is: a digit's value, what may stand between two bytes, the start of a comment, or something else.
-#[derive(Drop)]
+#[derive(Clone, Copy)]
 pub enum Digit {
     Value(u8),
     Space,

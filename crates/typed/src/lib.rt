@@ -1,5 +1,7 @@
 // Bytes typed as text: two hexadecimal digits each, with spaces and line breaks between them and comments from `#` to the line's end.
 // Such text is recognised, turned into the bytes, and made from a design's bytes.
+#![tactic(auto)]
+
 mod answers;
 mod back;
 mod digits;
@@ -14,7 +16,7 @@ use telling::put_byte;
 pub use text::is_text;
 
 // What was wrong with a text: nothing, a byte that is no digit, or a digit that has no second one beside it.
-#[derive(Drop)]
+#[derive(Clone, Copy)]
 pub enum Mistake {
     Nothing,
     NoDigit,
@@ -22,7 +24,7 @@ pub enum Mistake {
 }
 
 // Where the bytes end that a text says, or where it is wrong and how.
-#[derive(Drop)]
+#[derive(Clone, Copy)]
 pub struct Turned {
     pub end: usize,
     pub mistake: Mistake,
@@ -30,7 +32,7 @@ pub struct Turned {
 }
 
 // How far a text was read: inside a comment, or after the first digit of two; some digit was there; all was good.
-#[derive(Drop)]
+#[derive(Clone, Copy)]
 struct Seen {
     comment: bool,
     waiting: bool,

@@ -1,4 +1,6 @@
 // A line's words, which stand between its spaces, and what words say: numbers, weights, bytes, and bytes to lend.
+#![tactic(auto)]
+
 mod bytes;
 mod lending;
 mod numbers;

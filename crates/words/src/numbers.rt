@@ -8,7 +8,7 @@ use crate::why::{Why, is_fine};
 const MOST_DIGITS: usize = 18;
 
 // A number, if words say one, and else 0.
-#[derive(Drop)]
+#[derive(Clone, Copy)]
 pub struct Number {
     pub why: Why,
     pub n: usize,

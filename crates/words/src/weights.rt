@@ -18,7 +18,7 @@ const SIGN: u64 = 0x8000000000000000;
 const INFINITY: u64 = 0x7ff0000000000000;
 
 // A weight, if a word says one, and else 0.
-#[derive(Drop)]
+#[derive(Clone, Copy)]
 pub struct Weight {
     pub why: Why,
     pub value: f64,

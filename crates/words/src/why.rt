@@ -1,5 +1,5 @@
 // Why a line is bad.
-#[derive(Drop)]
+#[derive(Clone, Copy)]
 pub enum Why {
     Fine,
     NoRequest,

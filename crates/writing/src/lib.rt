@@ -1,4 +1,6 @@
 // Writing a design to bytes: its value is tested first, then the room that is lent, and only then a byte is put.
+#![tactic(auto)]
+
 ghost use Rattle.std.specs.Prelude.{◌≡◌, ◌++◌, ◌+◌, ◌≤◌, length, drop};
 ghost use Rattle.std.proofs.Math.Bool.{So};
 ghost use Rattle.rules.specs.Design.{most_columns, most_modules, need_at, lawful_need, LawfulDesign};
