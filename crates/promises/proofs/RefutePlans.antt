@@ -21,7 +21,7 @@ use Rattle.rules.specs.declared.Planned.TheVariants.{Box}
 use Rattle.rules.specs.Search.{all, count, total, least}
 use Rattle.rules.specs.Chip.{corner, shape, rectangle, column, column_of, covers_block, held_between, holds}
 use Rattle.rules.specs.Tree.{has, stands, joined, added, standing}
-use Rattle.rules.specs.Placement.{Follows, furthest, box, area, Placement}
+use Rattle.rules.specs.Placement.{Follows, furthest, area, Placement}
 use Rattle.rules.specs.Shape.{ShapeAt}
 use Rattle.rules.specs.Slot.{slot, Stores, IsListOf}
 use Rattle.rules.specs.Design.{need_at, ListsOf, node_at, slots_of, OwnLists, slot_rows, LawfulDesign, LawfulPlacement, value_test, within_limits, lawful_chip, in_range, lawful_need, width_of, height_of}

@@ -391,5 +391,5 @@ module _ (S : Services) (demand : Demand2 S) (before after : List ℕ) (r : Repl
       → Boxes exchanged 3 d (uneven d) after → ⊥
   unfolding uneven slot_rows
   scanner_exchanges_widths_and_heights d x h f =
-      let g = (demand.listed (uneven d) before after r x (elim d [ Vertical ↦ lawful.2 | Horizontal ↦ lawful.3 ]) h).1 in
+      let g = (demand.listed (uneven d) before after r x (elim d as (λ k. LawfulDesign (uneven k)) [ Vertical ↦ lawful.2 | Horizontal ↦ lawful.3 ]) h).1 in
       let (o, z) = uneven_root d after g in exchanged_has_no_box d _ _ (uneven_bytes d after g) o (f o z)
