@@ -12,7 +12,7 @@ use Rattle.rules.specs.declared.Token.{Token}
 use Rattle.rules.specs.declared.Design.{Design}
 use Rattle.rules.specs.Tree.{Tree, cut, position, things, is_cut, standing}
 use Rattle.rules.specs.Design.{most_tokens, token_at, nodes, standing_of, node_at, LawfulDesign}
-use Rattle.rules.proofs.Standing.{Reading, none_read, module_read, cut_read, Node, is_leaf, is_cut, read_stands, earlier, last_position}
+use Rattle.rules.proofs.Standing.{Reading, none_read, module_read, cut_read, Node, is_leaf, is_cut as node_is_cut, read_stands, earlier, last_position}
 use Rattle.rules.proofs.Searching.{absurd_so}
 use Rattle.rules.proofs.Nodes.{lawful_tree, node_at_lem}
 use Rattle.rules.proofs.Limits.{limits}
@@ -32,6 +32,7 @@ module _ {m : ℕ} {token : ℕ → Token} where
   -- they stood alone when the last token of the last of them had been read
   stood : {n : ℕ} {ts : List Tree} {v : Tree} {vs : List Tree} → Reading m token n ts → Lowest (v ∷ vs) ts
       → Reading m token (suc (position v)) (v ∷ vs)
+  stood {v = v} {vs = vs} none_read x4 = elim x4 [ ]
   stood (module_read r e b f) all = module_read r e b f
   stood (module_read r e b f) (below s) = stood r s
   stood (cut_read r e) all = cut_read r e
@@ -74,7 +75,7 @@ module _ (d : Design) (lawful : LawfulDesign d) where
       where
         go : {u : Tree} → node_at d t ≡ u → Node d.modules (token_at d) t u → last_but_one (standing_of d t) + 1 < t
         go q (is_leaf e b) = absurd_so (rw e at c)
-        go q (is_cut e b) = let a = left_stands q in omega arith
+        go q (node_is_cut e b) = let a = left_stands q in omega arith
 
     module_next : is_cut (token_at d t) ≡ false → last_but_one (standing_of d (suc t)) ≡ t - 1
     module_next c = let (us, r) = read_to in rw (read_stands r) (after_module r c)

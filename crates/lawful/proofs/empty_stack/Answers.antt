@@ -1,12 +1,8 @@
 -- A mark for each module, none set, and a count of 0: the array that the code makes is the definition's. Assumes nothing.
 use mathlib.Core.Path.{refl}
 use Rattle.lawful.specs.Stack.{empty_stack}
-use Rattle.lawful.proofs.empty_stack.Statement.{statement}
-use Rattle.lawful.proofs.empty_stack.Tie as tie
+use Rattle.lawful.proofs.empty_stack.Goals as goal
 
-returns : tie.Need-returns
+pub returns : goal.returns
 unfolding empty_stack
 returns c = refl
-
-pub empty-stack-spec : {M : Type 1} → statement M
-empty-stack-spec = tie.close (tie.spec returns)
