@@ -1,6 +1,5 @@
 -- The code tests the count as the definition does, and each answer is the definition's for that outcome. Assumes nothing.
 use native.Mathlib.Omega.{arith}
-use borrow.Author.Rules.{rules}
 use borrow.Author.Tests.{lt-ltb, le-ltb}
 use Rattle.lawful.specs.Stack.{after_cut}
 use Rattle.lawful.proofs.after_cut.Goals as goal

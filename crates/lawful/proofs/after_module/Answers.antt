@@ -1,7 +1,6 @@
 -- The code tests the module's number against m, then its mark, as the definition does; m is within its limit, so the mark is there,
 -- and the count is small enough to grow by one. Assumes nothing.
 use native.Mathlib.Omega.{arith}
-use borrow.Author.Rules.{rules}
 use borrow.Author.Tests.{lt-ltb, le-ltb}
 use Rattle.lawful.specs.Stack.{after_module}
 use Rattle.lawful.proofs.after_module.Goals as goal

@@ -1,5 +1,4 @@
 -- Each arm of the match is one case of the definition, and the two functions called say theirs. Assumes nothing.
-use borrow.Author.Rules.{rules}
 use Rattle.lawful.proofs.after_token.Goals as goal
 
 pub returns-in-Cut : goal.returns-in-Cut

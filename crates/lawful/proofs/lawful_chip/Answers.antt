@@ -2,7 +2,6 @@
 -- loop over kinds requires. Assumes nothing.
 use mathlib.Core.Path.{◌≡◌}
 use mathlib.Core.Bool.{true}
-use borrow.Author.Rules.{rules}
 use Rattle.rules.specs.Design.{most_columns, most_rows, in_range, lawful_chip}
 use Rattle.rules.proofs.Testing.{failed, passed, range_iff}
 use Rattle.lawful.proofs.lawful_chip.Goals as goal

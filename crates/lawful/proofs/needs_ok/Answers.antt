@@ -1,12 +1,8 @@
 -- While the loop goes on, every need so far is lawful; the first that is not settles it. The modules are within their limit, so every
 -- need read is in the array. Assumes nothing.
 use mathlib.Core.Path.{◌≡◌, sym}
-use mathlib.Core.Bool.{true}
-use Prim.Native.Nat.{◌-◌, ◌≤◌}
 use native.Mathlib.Omega.{arith}
 use borrow.Author.Rules.{rules}
-use Rattle.rules.specs.Search.{all}
-use Rattle.rules.specs.Design.{need_at, lawful_need}
 use Rattle.rules.proofs.Testing.{failed, passed, all_none, all_more, all_fails}
 use Rattle.lawful.proofs.needs_ok.Goals as goal
 

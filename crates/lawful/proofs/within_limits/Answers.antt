@@ -2,7 +2,6 @@
 -- needs requires. Assumes nothing.
 use mathlib.Core.Path.{◌≡◌}
 use mathlib.Core.Bool.{true}
-use borrow.Author.Rules.{rules}
 use Rattle.rules.specs.Design.{most_modules, in_range, within_limits}
 use Rattle.rules.proofs.Testing.{failed, passed, range_iff}
 use Rattle.lawful.proofs.within_limits.Goals as goal

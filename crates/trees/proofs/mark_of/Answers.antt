@@ -4,7 +4,6 @@ use Prim.Native.Nat.{◌+◌, ◌<◌}
 use native.Mathlib.Omega.{arith}
 use lib.ListN.{get_or}
 use borrow.Author.Tests.{eq-eqb, ne_eqb}
-use borrow.Author.Rules.{rules}
 use Rattle.trees.specs.Positions.{mark_of}
 use Rattle.trees.proofs.mark_of.Goals as goal
 use Rattle.trees.proofs.mark_of.Goals.{Then-is_cut}
