@@ -1,0 +1,5 @@
+-- `put_decimal` calls itself with one digit fewer left.
+use Rattle.printing.proofs.+put_decimal.Given as goal
+
+abbrev pub decreases-put_decimal : goal.decreases-put_decimal
+decreases-put_decimal l = l.digits
