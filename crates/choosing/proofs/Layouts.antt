@@ -49,7 +49,7 @@ falls_below : (n k : ℕ) (ts : List Tree) → n ≤ k → Falls n ts → Falls 
 falls_below n k [] h f = tt
 falls_below n k (t ∷ ts) h (a, f) = (omega arith, f)
 
-falls : {m n : ℕ} {token : ℕ → Token} {ts : List Tree} → Reading m token n ts → Falls n ts
+falls : {m : ℕ} {token : ℕ → Token} {n : ℕ} {ts : List Tree} → Reading m token n ts → Falls n ts
 falls none_read = tt
 falls (module_read r e h f) = (omega arith, falls r)
 falls (cut_read {n = n} {ts = ts} r e) = let (a, (b, f)) = falls r in (omega arith, falls_below _ n ts (omega arith) f)
@@ -256,6 +256,7 @@ one_comes board slots t c s e end C o q =
 
 only_part : {u t : Tree} → Among u (t ∷ []) → Part u t
 only_part (here p) = p
+only_part {u = u} {t = t} (there a) = elim a [ ]
 
 -- going down the nodes of a lawful design is going down its tree
 pub lays_out : (board : Board) (slots : ℕ → Corner → ℕ → ℕ) (d : Design) → LawfulDesign d → (lefts : List ℕ) → LeftChildren d lefts → (s : Shape) (end : Descent)
