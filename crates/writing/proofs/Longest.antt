@@ -1,6 +1,6 @@
 -- How many bytes the longest lawful design takes: each number is within its limit, and a lesser number takes no more bytes. No limit
 -- is named. Assumes nothing.
-use Prim.Native.Nat.{ℕ, ◌+◌, ◌*◌, ◌-◌, ◌≤◌, ◌<◌}
+use Prim.Native.Nat.{ℕ, ◌+◌, ◌*◌, ◌≤◌, ◌<◌}
 use native.Mathlib.Omega.{arith}
 use native.Mathlib.Nat.{le_trans, mul-le-mul_left}
 use lib.ListN.{length, get_or}

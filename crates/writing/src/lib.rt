@@ -103,8 +103,8 @@ fn design_len(d: Design) -> usize
 
 // Puts the first `n` numbers of a row at `at`, and gives the position after them.
 fn put_row(out: &mut [u8], at: usize, row: &[u8], n: usize) -> usize
-    requires n_in_bounds { n ≤ length row.now }
-    requires n_in_bounds_2 { at + length (byte_row row.now n) ≤ length out.old }
+    requires within { n ≤ length row.now }
+    requires room { at + length (byte_row row.now n) ≤ length out.old }
     ensures { Put out.old at (byte_row row.now n) result out.new }
 {
     let mut next = at;
@@ -126,8 +126,8 @@ fn put_need(out: &mut [u8], at: usize, n: Need) -> usize
 
 // Puts the needs of the modules at `at`, and gives the position after them.
 fn put_needs(out: &mut [u8], at: usize, d: Design) -> usize
-    requires lawful_design { LawfulDesign d }
-    requires modules_in_bounds { at + length (row_bytes need_bytes (need_at d) d.modules) ≤ length out.old }
+    requires lawful { LawfulDesign d }
+    requires room { at + length (row_bytes need_bytes (need_at d) d.modules) ≤ length out.old }
     ensures { Put out.old at (row_bytes need_bytes (need_at d) d.modules) result out.new }
 {
     let m = d.modules;
@@ -140,8 +140,8 @@ fn put_needs(out: &mut [u8], at: usize, d: Design) -> usize
 
 // Puts the form number and the chip's three numbers in front, and gives the position after them.
 fn put_head(out: &mut [u8], d: Design) -> usize
-    requires lawful_design { LawfulDesign d }
-    requires d_in_bounds { length (head_bytes d) ≤ length out.old }
+    requires lawful { LawfulDesign d }
+    requires room { length (head_bytes d) ≤ length out.old }
     ensures { Put out.old 0 (head_bytes d) result out.new }
 {
     let at = put_number(out, 0, FORM_NUMBER);
@@ -152,8 +152,8 @@ fn put_head(out: &mut [u8], d: Design) -> usize
 
 // Puts the number of modules, their needs and the tokens at `at`, and gives the position after them.
 fn put_modules(out: &mut [u8], at: usize, d: Design) -> usize
-    requires lawful_design { LawfulDesign d }
-    requires d_in_bounds { at + length (modules_bytes d) ≤ length out.old }
+    requires lawful { LawfulDesign d }
+    requires room { at + length (modules_bytes d) ≤ length out.old }
     ensures { Put out.old at (modules_bytes d) result out.new }
 {
     let at = put_number(out, at, d.modules);
@@ -163,8 +163,8 @@ fn put_modules(out: &mut [u8], at: usize, d: Design) -> usize
 
 // Puts a lawful design in front; what stands past it stays.
 fn put_design(out: &mut [u8], d: Design)
-    requires lawful_design { LawfulDesign d }
-    requires d_in_bounds { length (design_bytes d) ≤ length out.old }
+    requires lawful { LawfulDesign d }
+    requires room { length (design_bytes d) ≤ length out.old }
     ensures { out.new ≡ design_bytes d ++ drop (length (design_bytes d)) out.old }
 {
     let at = put_head(out, d);

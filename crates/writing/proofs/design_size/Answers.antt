@@ -2,12 +2,8 @@
 use mathlib.Core.Path.{refl}
 use Rattle.rules.specs.Bytes.{number_bytes}
 use Rattle.writing.specs.Parts.{design_size}
-use Rattle.writing.proofs.design_size.Statement.{statement}
-use Rattle.writing.proofs.design_size.Tie as tie
+use Rattle.writing.proofs.design_size.Goals as goal
 
-returns : tie.Need-returns
+pub returns : goal.returns
 unfolding design_size number_bytes
 returns c = refl
-
-pub design-size-spec : {M : Type 1} → statement M
-design-size-spec = tie.close (tie.spec returns)
