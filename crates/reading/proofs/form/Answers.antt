@@ -1,6 +1,5 @@
 -- The number is the one that stands at the front; with `take_number`'s answer in hand, the code's test is the rules' test.
 -- Assumes nothing.
-use borrow.Author.Rules.{rules}
 use borrow.Author.Tests.{eq-eqb, ne_eqb}
 use Rattle.reading.proofs.Answers.{unread, fails, passes}
 use Rattle.reading.proofs.form.Goals as goal
@@ -10,10 +9,8 @@ returns-in_default c = unread _ _ c.take_number-number.ensures _ _ c.in_default.
 
 pub returns-then-value-ne1 : goal.returns-then-value-ne1
 returns-then-value-ne1 c =
-    let k = c in
-    fails _ _ k.take_number-number.ensures _ _ k.in-Number.is (ne_eqb _ _ c.if-value-ne1.true)
+    fails _ _ c.take_number-number.ensures _ _ c.in-Number.is (ne_eqb _ _ c.if-value-ne1.true)
 
 pub returns : goal.returns
 returns c =
-    let k = c in
-    passes _ _ k.take_number-number.ensures _ _ k.in-Number.is (eq-eqb _ _ c.if-value-ne1.false)
+    passes _ _ c.take_number-number.ensures _ _ c.in-Number.is (eq-eqb _ _ c.if-value-ne1.false)

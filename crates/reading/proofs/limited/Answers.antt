@@ -1,5 +1,4 @@
 -- With `take_number`'s answer in hand, the code's test is the rules' test. Assumes nothing.
-use borrow.Author.Rules.{rules}
 use Rattle.rules.proofs.Testing.{failed, passed}
 use Rattle.reading.proofs.Answers.{unread, fails, passes}
 use Rattle.reading.proofs.limited.Goals as goal
@@ -9,12 +8,10 @@ returns-in_default c = unread _ _ c.take_number-number.ensures _ _ c.in_default.
 
 pub returns-then-not-in_range : goal.returns-then-not-in_range
 returns-then-not-in_range c =
-    let k = c in
-    fails _ _ k.take_number-number.ensures _ _ k.in-Number.is
+    fails _ _ c.take_number-number.ensures _ _ c.in-Number.is
     (failed c.in_range.ensures c.if-not-in_range.true-raw)
 
 pub returns : goal.returns
 returns c =
-    let k = c in
-    passes _ _ k.take_number-number.ensures _ _ k.in-Number.is
+    passes _ _ c.take_number-number.ensures _ _ c.in-Number.is
     (passed c.in_range.ensures c.if-not-in_range.false-raw)

@@ -1,12 +1,9 @@
 -- While the loop goes on, what is still to be read, put behind the kinds in the array, is the whole row. Assumes nothing.
-use Prim.Native.Nat.{◌-◌, ◌≤◌}
 use borrow.Author.Rules.{rules}
-use Rattle.rules.specs.declared.Refusal.TheVariants.{BreaksLimits}
-use Rattle.rules.specs.Design.{most_columns, lawful_kind}
-use Rattle.rules.specs.Bytes.{checked_at, row_at, padded}
+use Rattle.rules.specs.Bytes.{padded}
 use Rattle.reading.specs.Stages.{stage, kinds_at}
 use Rattle.reading.proofs.Answers.{kind_taken, kind_refused, kind_small}
-use Rattle.reading.proofs.Rows.{Reading, row_begun, next_read, next_refused, row_read}
+use Rattle.reading.proofs.Rows.{row_begun, next_read, next_refused, row_read}
 use Rattle.reading.proofs.read_kinds.Goals as goal
 
 pub loop-x-init : goal.loop-x-init
@@ -16,8 +13,8 @@ loop-x-init c = (search rules, row_begun _ _ _ _ _)
 pub returns-in_default : goal.returns-in_default
 unfolding stage kinds_at
 returns-in_default c =
-    let n = c in let l = n in let q = c.in_default.is in
-    let e = next_refused _ _ _ _ _ l.loop-x.invariant.1 l.loop-x-test.true (kind_refused _ _ n.limited-number.ensures q) in
+    let q = c.in_default.is in
+    let e = next_refused _ _ _ _ _ c.loop-x.invariant.1 c.loop-x-test.true (kind_refused _ _ c.limited-number.ensures q) in
     simp e (rw q at c.stopped.ensures)
 
 pub overflow_cast-kinds : goal.overflow_cast-kinds
@@ -25,9 +22,8 @@ overflow_cast-kinds c = let k = kind_small _ _ c.limited-number.ensures c.in-Num
 
 pub loop-x-preserved : goal.loop-x-preserved
 loop-x-preserved c =
-    let n = c in let l = n in
-    let q = kind_taken _ _ n.limited-number.ensures c.in-Number.is in
-    (search rules, next_read _ _ _ _ _ l.loop-x.invariant.1 l.loop-x-test.true (search rules) q)
+    let q = kind_taken _ _ c.limited-number.ensures c.in-Number.is in
+    (search rules, next_read _ _ _ _ _ c.loop-x.invariant.1 c.loop-x-test.true (search rules) q)
 
 pub returns : goal.returns
 unfolding stage kinds_at

@@ -1,12 +1,9 @@
 -- While the loop goes on, what is still to be read, put behind the kinds in the array, is the whole row. Assumes nothing.
 use Prim.Native.Nat.{◌-◌, ◌≤◌}
-use borrow.Author.Rules.{rules}
 use Rattle.rules.specs.declared.Refusal.TheVariants.{BreaksLimits}
 use Rattle.rules.specs.Design.{most_columns, lawful_kind}
-use Rattle.rules.specs.Bytes.{checked_at, row_at, padded}
-use Rattle.reading.specs.Stages.{stage, kinds_at}
-use Rattle.reading.proofs.Answers.{kind_taken, kind_refused, kind_small}
-use Rattle.reading.proofs.Rows.{Reading, row_begun, next_read, next_refused, row_read}
+use Rattle.rules.specs.Bytes.{checked_at, row_at}
+use Rattle.reading.proofs.Rows.{Reading}
 use Rattle.reading.proofs.read_kinds.Given as goal
 
 abbrev pub invariant-loop-x : goal.invariant-loop-x

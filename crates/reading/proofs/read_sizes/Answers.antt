@@ -1,5 +1,4 @@
 -- Each number that the code takes is the next one of the rules, so the first that is refused ends both. Assumes nothing.
-use borrow.Author.Rules.{rules}
 use Rattle.reading.specs.Stages.{stage, sizes_at}
 use Rattle.reading.proofs.Answers.{checked_taken, checked_refused}
 use Rattle.reading.proofs.read_sizes.Goals as goal
@@ -14,41 +13,31 @@ pub returns-in_default-number : goal.returns-in_default-number
 unfolding stage sizes_at
 returns-in_default-number c =
     let q = c.in_default-number.is in
-    let form = c in
-    let p1 = checked_taken _ _ _ _ form.form-number.ensures form.in-Number.is in
+    let p1 = checked_taken _ _ _ _ c.form-number.ensures c.in-Number.is in
     simp (p1, checked_refused _ _ _ _ c.limited-number.ensures q) (rw q at c.stopped-in_default-number.ensures)
 
 pub returns-in_default-number-2 : goal.returns-in_default-number-2
 unfolding stage sizes_at
 returns-in_default-number-2 c =
     let q = c.in_default-number-2.is in
-    let width = c in
-    let p2 = checked_taken _ _ _ _ width.limited-number.ensures width.in-Number-number.is in
-    let form = width in
-    let p1 = checked_taken _ _ _ _ form.form-number.ensures form.in-Number.is in
+    let p2 = checked_taken _ _ _ _ c.limited-number.ensures c.in-Number-number.is in
+    let p1 = checked_taken _ _ _ _ c.form-number.ensures c.in-Number.is in
     simp (p1, p2, checked_refused _ _ _ _ c.limited-number-2.ensures q) (rw q at c.stopped-in_default-number-2.ensures)
 
 pub returns-in_default-number-3 : goal.returns-in_default-number-3
 unfolding stage sizes_at
 returns-in_default-number-3 c =
     let q = c.in_default-number-3.is in
-    let height = c in
-    let p3 = checked_taken _ _ _ _ height.limited-number-2.ensures height.in-Number-number-2.is in
-    let width = height in
-    let p2 = checked_taken _ _ _ _ width.limited-number.ensures width.in-Number-number.is in
-    let form = width in
-    let p1 = checked_taken _ _ _ _ form.form-number.ensures form.in-Number.is in
+    let p3 = checked_taken _ _ _ _ c.limited-number-2.ensures c.in-Number-number-2.is in
+    let p2 = checked_taken _ _ _ _ c.limited-number.ensures c.in-Number-number.is in
+    let p1 = checked_taken _ _ _ _ c.form-number.ensures c.in-Number.is in
     simp (p1, p2, p3, checked_refused _ _ _ _ c.limited-number-3.ensures q) (rw q at c.stopped-in_default-number-3.ensures)
 
 pub returns : goal.returns
 unfolding stage sizes_at
 returns c =
-    let block = c in
-    let p4 = checked_taken _ _ _ _ block.limited-number-3.ensures block.in-Number-number-3.is in
-    let height = block in
-    let p3 = checked_taken _ _ _ _ height.limited-number-2.ensures height.in-Number-number-2.is in
-    let width = height in
-    let p2 = checked_taken _ _ _ _ width.limited-number.ensures width.in-Number-number.is in
-    let form = width in
-    let p1 = checked_taken _ _ _ _ form.form-number.ensures form.in-Number.is in
+    let p4 = checked_taken _ _ _ _ c.limited-number-3.ensures c.in-Number-number-3.is in
+    let p3 = checked_taken _ _ _ _ c.limited-number-2.ensures c.in-Number-number-2.is in
+    let p2 = checked_taken _ _ _ _ c.limited-number.ensures c.in-Number-number.is in
+    let p1 = checked_taken _ _ _ _ c.form-number.ensures c.in-Number.is in
     simp (p1, p2, p3, p4, c.empty-design.ensures)

@@ -1,6 +1,5 @@
 -- Where the code finds a refusal, it replies with that refusal. Assumes nothing.
 use mathlib.Core.Path.{sym, ap}
-use borrow.Author.Rules.{rules}
 use Rattle.reading.specs.Stages.{replied}
 use Rattle.reading.proofs.said.Goals as goal
 

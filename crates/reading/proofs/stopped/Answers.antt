@@ -1,5 +1,4 @@
 -- The reply is the number's, and the empty design of no size is all zeros. Assumes nothing.
-use borrow.Author.Rules.{rules}
 use Rattle.rules.specs.Service.{zeros}
 use Rattle.reading.proofs.stopped.Goals as goal
 
