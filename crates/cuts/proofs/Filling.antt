@@ -34,6 +34,11 @@ pub corner_on : (d : Direction) (board : Board) (on p : ℕ) → on < lines d bo
 corner_on Vertical board on p h k = record { column = k; row = h }
 corner_on Horizontal board on p h k = record { column = h; row = k }
 
+-- the corner that the code comes to at one of n places
+pub corner_met : (d : Direction) (board : Board) {on p n : ℕ} {c : Corner} → on < lines d board → p < n → n ≡ places d board
+    → c ≡ corner_at d on p → OnBoard board c
+corner_met d board {on} {p} h k e q = rw q (corner_on d board on p h (omega arith))
+
 pub few_places : (d : Direction) (board : Board) → board.width.0 ≤ most_columns → board.height.0 ≤ most_rows
     → places d board ≤ most_places
 few_places Vertical board h k = omega arith
