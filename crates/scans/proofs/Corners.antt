@@ -27,6 +27,10 @@ module _ {B : Board} {t child : ℕ} {c : Corner} {to : ℕ} {work : List ℕ} (
   pub slot_ends : to + B.width.0 ≤ length work
   slot_ends = omega (arith, r.place, slot_lent r.lent t (omega arith) (on_listed r.lent r.corner))
 
+  -- and so does the child's slot there
+  pub child_lent : {c' : Corner} {from : ℕ} → OnBoard B c' → from ≡ start_on B child c' → from + B.width.0 ≤ length work
+  child_lent on e = omega (arith, e, child_before on, slot_ends)
+
   -- a child's slot falls
   pub child_falls : {c' : Corner} {from n : ℕ} → OnBoard B c' → from ≡ start_on B child c' → n ≤ B.width.0 → Falls (bytes_from work from) n
   child_falls {c'} {n = n} on e h = subst (λ f. Falls f n) (sym (slot_bytes B child c' work e)) (λ i j p q u v. (r.stairs c' on).fall i j p (omega arith) u v)

@@ -8,7 +8,7 @@ use native.Mathlib.Decide.{dec_lt, ℕ_discrete}
 use Rattle.rules.specs.declared.Corner.{Corner}
 use Rattle.rules.specs.declared.Shape.{Shape}
 use Rattle.rules.specs.declared.Direction.TheVariants.{Vertical}
-use Rattle.rules.specs.Chip.{corner, shape}
+use Rattle.rules.specs.Chip.{shape}
 use Rattle.rules.specs.Slot.{Stores, CornerOn, Stair}
 use Rattle.rules.proofs.Scanning.{StairsOf, sides, stair_falls}
 use Rattle.rules.proofs.Keeping.{KeptTo, StopsAt, keeping_begins, keeping_ends, no_corner}

@@ -1,0 +1,11 @@
+-- `scans::scan_horizontal` meets its contract. The loop's invariant: the scan has come to a left shape's width. The measure is how many columns are
+-- left. Assumes nothing.
+use Prim.Native.Nat.{◌-◌}
+use Rattle.scans.proofs.FromTheNarrowest.{LeftsFrom}
+use Rattle.scans.proofs.scan_horizontal.Given as goal
+
+abbrev pub invariant-loop-i : goal.invariant-loop-i
+invariant-loop-i l = LeftsFrom l.board l.t l.left l.right l.at l.initial.work l.work l.i l.low
+
+abbrev pub decreases-loop-i : goal.decreases-loop-i
+decreases-loop-i l = l.columns - l.i
