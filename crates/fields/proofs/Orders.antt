@@ -5,7 +5,7 @@ use Prim.Native.Nat.{ℕ, zero, suc, ◌+◌, ◌-◌, ◌*◌, ◌/◌, ◌≤�
 use native.Mathlib.Omega.{arith}
 use borrow.Author.Tests.{lt-ltb, le-ltb}
 use Rattle.rules.specs.declared.Refusal.{Refusal}
-use Rattle.rules.specs.Bytes.{Took, took, refuse, number_at}
+use Rattle.rules.specs.Bytes.{number_at}
 use Rattle.numbers.specs.declared.NumberReply.{NumberReply}
 use Rattle.numbers.specs.declared.NumberReply.TheVariants.{Number, Refused}
 use Rattle.numbers.specs.Replies.{reply_of}
