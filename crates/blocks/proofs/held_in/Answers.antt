@@ -7,7 +7,7 @@ use Rattle.blocks.proofs.held_in.Goals as goal
 
 pub loop-j-init : goal.loop-j-init
 unfolding count
-loop-j-init c = (omega arith, omega arith, c.many_at-many.ensures.0, refl)
+loop-j-init c = (omega arith, c.many_at-many.ensures.0, refl)
 
 pub counted-held-requires : goal.counted-held-requires
 counted-held-requires c = omega (arith, c.many_at-many.ensures.1)
@@ -16,10 +16,10 @@ pub loop-j-preserved : goal.loop-j-preserved
 loop-j-preserved c =
     let i = c.loop-j.invariant in
     let z = counted_most c.covers.result c.loop-j.held in
-    (omega arith, rw c.counted-held.ensures (omega arith), i.2, one_more _ _ _ _ _ c.block_at.ensures.0 c.covers.ensures i.3 c.counted-held.ensures)
+    (rw c.counted-held.ensures (omega arith), i.1, one_more _ _ _ _ _ c.block_at.ensures.0 c.covers.ensures i.2 c.counted-held.ensures)
 
 pub returns : goal.returns
 returns c =
     let i = c.loop-j.invariant in let e : c.loop-j.j ≡ c.many_at-many.result = omega arith in
     let a = c.args in
-    i.3 ∙ ap (λ (n : ℕ). count n (covers_block (column a.chip a.x) (bottom a.r) (top a.r))) (e ∙ i.2)
+    i.2 ∙ ap (λ (n : ℕ). count n (covers_block (column a.chip a.x) (bottom a.r) (top a.r))) (e ∙ i.1)

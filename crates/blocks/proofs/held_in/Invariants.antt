@@ -6,4 +6,4 @@ use Rattle.blocks.proofs.held_in.Given as goal
 
 abbrev pub invariant-loop-j : goal.invariant-loop-j
 invariant-loop-j l =
-    (l.j ≤ l.many) × (l.held ≤ l.j) × (l.many ≡ (column l.chip l.x).many) × (l.held ≡ count l.j (covers_block (column l.chip l.x) (bottom l.r) (top l.r)))
+    (l.held ≤ l.j) × (l.many ≡ (column l.chip l.x).many) × (l.held ≡ count l.j (covers_block (column l.chip l.x) (bottom l.r) (top l.r)))
