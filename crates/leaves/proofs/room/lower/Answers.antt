@@ -9,9 +9,6 @@ pub returns-then-room-edge : goal.returns-then-room-edge
 unfolding lower
 returns-then-room-edge c = simp (ne_eqb _ _ c.if-room-edge.true, sub-zero)
 
-pub overflow_sub-blocks : goal.overflow_sub-blocks
-overflow_sub-blocks c = c.requires.blocks c.if-room-edge.false
-
 pub edge_above-requires : goal.edge_above-requires
 edge_above-requires c h =
     c.requires.edge c.if-room-edge.false (omega arith)

@@ -11,7 +11,7 @@ with_column-requires c =
 pub with_column-requires-2 : goal.with_column-requires-2
 with_column-requires-2 c =
     let p = c.requires in
-    (p.0, p.1.held, record { clbs = p.1.rows; rams = p.1.blocks; multipliers = p.1.blocks })
+    (p.0, p.1.held, record { clbs = omega arith; rams = omega arith; multipliers = omega arith })
 
 pub returns : goal.returns
 unfolding wider
