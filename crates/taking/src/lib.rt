@@ -4,44 +4,49 @@
 
 ghost use Rattle.std.specs.Prelude.{◌≤◌, length};
 
-use libc::{EINTR, STDIN_FILENO};
+use std::io;
+use std::io::{ErrorKind, Read};
 
-// How many bytes came, none at the end of the input, and whether a read failed.
+// How many bytes came, none at the end of the input, and why a read failed, if one did.
 #[derive(Clone, Copy)]
 pub struct Taken {
     pub count: usize,
-    pub failed: bool,
+    pub failed: Option<io::Error>,
 }
 
 // What one read came to: it is tried again if a signal came before any byte did.
 #[derive(Clone, Copy)]
 struct Tried {
     again: bool,
-    failed: bool,
+    failed: Option<io::Error>,
     count: usize,
 }
 
-// Reads once. errno tells an interrupted read from one that failed, so it is asked just after.
-fn try_read(buffer: &mut [u8]) -> Tried
+// Reads once.
+fn try_read<R: Read>(reader: &mut R, buffer: &mut [u8]) -> Tried
     ensures { result.count ≤ length buffer.new }
 {
-    let got = libc::read(STDIN_FILENO, buffer);
-    let failed = got < 0;
-    let again = failed && os::errno() == EINTR;
-    Tried {
-        again,
-        failed,
-        count: io::count(got, buffer),
+    match reader.read(buffer) {
+        Ok(count) => Tried {
+            again: false,
+            failed: None,
+            count,
+        },
+        Err(e) => Tried {
+            again: e.kind() == ErrorKind::Interrupted,
+            failed: Some(e),
+            count: 0,
+        },
     }
 }
 
 // Reads some bytes to the front of the buffer. A proved loop has to end, so the turns are counted, to a number that no run
 // reaches.
-pub fn take_some(buffer: &mut [u8]) -> Taken
+pub fn take_some<R: Read>(reader: &mut R, buffer: &mut [u8]) -> Taken
     ensures { result.count ≤ length buffer.new }
 {
     for _ in 0..usize::MAX {
-        let tried = try_read(buffer);
+        let tried = try_read(reader, buffer);
         if !tried.again {
             return Taken {
                 count: tried.count,
@@ -51,17 +56,17 @@ pub fn take_some(buffer: &mut [u8]) -> Taken
     }
     Taken {
         count: 0,
-        failed: true,
+        failed: Some(io::Error::from(ErrorKind::Interrupted)),
     }
 }
 
 // Reads until the buffer is full or the input ends.
-pub fn take_all(buffer: &mut [u8]) -> Taken
+pub fn take_all<R: Read>(reader: &mut R, buffer: &mut [u8]) -> Taken
     ensures { result.count ≤ length buffer.new }
 {
     let mut count = 0;
     while count < buffer.len() {
-        let taken = take_some(&mut buffer[count..]);
+        let taken = take_some(reader, &mut buffer[count..]);
         let more = taken.count;
         if more == 0 {
             return Taken {
@@ -73,16 +78,17 @@ pub fn take_all(buffer: &mut [u8]) -> Taken
     }
     Taken {
         count,
-        failed: false,
+        failed: None,
     }
 }
 
-// Says on standard error, in the system's words, why the input could not be read.
-pub fn say_unread() {
-    os::fail(b"standard input");
+// Says on standard error, in the system's words, why the input could not be read. Where that can't be written either, nobody
+// is left to be told.
+pub fn say_unread(rt: &impl Eprint, why: io::Error) {
+    let _ = eprintln!(rt; "standard input: {why}");
 }
 
 // The same of the output.
-pub fn say_unwritten() {
-    os::fail(b"standard output");
+pub fn say_unwritten(rt: &impl Eprint, why: io::Error) {
+    let _ = eprintln!(rt; "standard output: {why}");
 }
