@@ -6,8 +6,7 @@ ghost use Rattle.keeping.specs.Lent.{Lent};
 ghost use Rattle.ask.specs.Reading.{Inside};
 
 use asking::{Held, Why, next_of, nothing_held, put_bad, serve};
-use libc::STDOUT_FILENO;
-use taking::{Taken, say_unread, say_unwritten, take_some};
+use taking::{Taken, say_unread, take_some, write_or_say};
 
 // A line's bytes, with its newline.
 const LINE_SIZE: usize = 16_384;
@@ -56,18 +55,18 @@ fn move_down(input: &mut [u8], from: usize, to: usize)
 }
 
 // Reads some bytes, or says why they can't be read.
-fn take_or_say(room: &mut [u8]) -> Taken
+fn take_or_say(rt: &(impl Input + Eprint), room: &mut [u8]) -> Taken
     ensures { result.count ≤ length room.new }
 {
-    let taken = take_some(room);
-    if taken.failed {
-        say_unread();
+    let taken = take_some(&mut rt.reader(), room);
+    if let Some(why) = taken.failed {
+        say_unread(rt, why);
     }
     taken
 }
 
 // Reads on behind the bytes that are not served yet, or drops them where they fill all the room.
-fn read_on(s: Reading, input: &mut [u8]) -> Reading
+fn read_on(rt: &(impl Input + Eprint), s: Reading, input: &mut [u8]) -> Reading
     requires { Inside s input.old }
     ensures { Inside result input.new }
 {
@@ -85,7 +84,7 @@ fn read_on(s: Reading, input: &mut [u8]) -> Reading
         };
     }
     move_down(input, from, to);
-    let taken = take_or_say(&mut input[left..]);
+    let taken = take_or_say(rt, &mut input[left..]);
     let more = taken.count;
     Reading {
         from: 0,
@@ -93,13 +92,13 @@ fn read_on(s: Reading, input: &mut [u8]) -> Reading
         to: left + more,
         long: s.long,
         over: more == 0,
-        failed: taken.failed,
+        failed: taken.failed.is_some(),
     }
 }
 
 // Reads until a whole line is there, or the input is over. A proved loop has to end, so the turns are counted, to a number
 // that no run reaches.
-fn read_line(s: Reading, input: &mut [u8]) -> Reading
+fn read_line(rt: &(impl Input + Eprint), s: Reading, input: &mut [u8]) -> Reading
     requires { Inside s input.old }
     ensures { Inside result input.new }
 {
@@ -115,22 +114,14 @@ fn read_line(s: Reading, input: &mut [u8]) -> Reading
         if s.over {
             return s;
         }
-        s = read_on(s, input);
+        s = read_on(rt, s, input);
     }
     s
 }
 
-// Writes an answer, or says why it can't be written.
-fn write_or_say(answer: &[u8]) -> bool {
-    let written = io::write_all(STDOUT_FILENO, answer);
-    if !written {
-        say_unwritten();
-    }
-    written
-}
-
 // Serves the line, and writes its answer.
 fn answer(
+    rt: &(impl Print + Eprint),
     s: Reading,
     number: usize,
     held: Held,
@@ -144,14 +135,14 @@ fn answer(
 {
     if s.long {
         let n = put_bad(number, Why::TooLong, out);
-        let written = write_or_say(&out[0..n]);
+        let written = write_or_say(rt, &out[0..n]);
         return Told { held, written };
     }
     let from = s.from;
     let end = s.end;
     let served = serve(&input[from..end], number, held, work, rows, out);
     let n = served.length;
-    let written = write_or_say(&out[0..n]);
+    let written = write_or_say(rt, &out[0..n]);
     let held = served.held;
     Told { held, written }
 }
@@ -180,6 +171,7 @@ fn is_done(s: Reading) -> bool {
 
 // Reads a line and serves it, if there is one.
 fn step(
+    rt: &(impl Input + Print + Eprint),
     s: Reading,
     number: usize,
     held: Held,
@@ -191,7 +183,7 @@ fn step(
     requires { Inside s input.old × Lent held work.old rows.old }
     ensures { Inside result.reading input.new × Lent result.held work.new rows.new }
 {
-    let reading = read_line(s, input);
+    let reading = read_line(rt, s, input);
     if is_done(reading) {
         return Turn {
             reading,
@@ -199,7 +191,7 @@ fn step(
             more: false,
         };
     }
-    let told = answer(reading, number, held, input, work, rows, out);
+    let told = answer(rt, reading, number, held, input, work, rows, out);
     let held = told.held;
     Turn {
         reading: past(reading),
@@ -209,7 +201,13 @@ fn step(
 }
 
 // Serves line after line until the input is over, or it can't be read, or an answer can't be written.
-fn run(input: &mut [u8], work: &mut [u8], rows: &mut [u8], out: &mut [u8]) {
+fn run(
+    rt: &(impl Input + Print + Eprint),
+    input: &mut [u8],
+    work: &mut [u8],
+    rows: &mut [u8],
+    out: &mut [u8],
+) {
     let mut held = nothing_held();
     let mut s = Reading {
         from: 0,
@@ -220,7 +218,7 @@ fn run(input: &mut [u8], work: &mut [u8], rows: &mut [u8], out: &mut [u8]) {
         failed: false,
     };
     for number in 1..usize::MAX {
-        let turn = step(s, number, held, input, work, rows, out);
+        let turn = step(rt, s, number, held, input, work, rows, out);
         if !turn.more {
             return;
         }
@@ -231,18 +229,19 @@ fn run(input: &mut [u8], work: &mut [u8], rows: &mut [u8], out: &mut [u8]) {
 
 // Lends the arrays as bytes.
 fn run_in(
+    rt: &(impl Input + Print + Eprint),
     input: &mut [u8; LINE_SIZE],
     work: &mut [u8; WORK_SIZE],
     rows: &mut [u8; ROWS_SIZE],
     out: &mut [u8; ANSWER_SIZE],
 ) {
-    run(input, work, rows, out);
+    run(rt, input, work, rows, out);
 }
 
-fn main() {
+fn main(rt: HostRuntime) {
     let mut input = [0u8; LINE_SIZE];
     let mut work = [0u8; WORK_SIZE];
     let mut rows = [0u8; ROWS_SIZE];
     let mut out = [0u8; ANSWER_SIZE];
-    run_in(&mut input, &mut work, &mut rows, &mut out);
+    run_in(&rt, &mut input, &mut work, &mut rows, &mut out);
 }

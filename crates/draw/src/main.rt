@@ -1,6 +1,6 @@
 // Draws a floorplan: standard input has a header line, a design's bytes and the plan program's text.
 #![tactic(auto)]
 
-fn main() {
-    drawing::run_draw();
+fn main(rt: HostRuntime) {
+    drawing::run_draw(rt);
 }

@@ -1,6 +1,6 @@
 // The draw program on the design D, as SVG.
 #![tactic(auto)]
 
-fn main() {
-    drawing::run_draw();
+fn main(rt: HostRuntime) {
+    drawing::run_draw(rt);
 }

@@ -1,6 +1,6 @@
 // The draw program on a design that has no placement: it says so.
 #![tactic(auto)]
 
-fn main() {
-    drawing::run_draw();
+fn main(rt: HostRuntime) {
+    drawing::run_draw(rt);
 }

@@ -1,6 +1,6 @@
 // The draw program where two regions cut one block, as SVG.
 #![tactic(auto)]
 
-fn main() {
-    drawing::run_draw();
+fn main(rt: HostRuntime) {
+    drawing::run_draw(rt);
 }

@@ -1,6 +1,6 @@
 // The draw program on a plan of another design: the checker refuses the rows, and nothing is drawn.
 #![tactic(auto)]
 
-fn main() {
-    drawing::run_draw();
+fn main(rt: HostRuntime) {
+    drawing::run_draw(rt);
 }

@@ -4,23 +4,25 @@ ghost use Rattle.std.specs.Prelude.{◌≤◌, length};
 use pen::{Pen, write, write_words};
 use replies::number_of;
 use rules::Refusal;
+use std::io::Stdout;
 use telling::{put_byte, put_number, put_word};
 
 // A pen for text.
-fn new_pen() -> Pen {
+fn new_pen(out: Stdout) -> Pen {
     Pen {
         svg: false,
         dry: false,
         y: 0,
         cuts: 0,
         fine: true,
+        out,
     }
 }
 
 // The input is no header, design and plan.
-pub fn unreadable(line: &mut [u8]) -> bool {
+pub fn unreadable(out: Stdout, line: &mut [u8]) -> bool {
     write_words(
-        new_pen(),
+        new_pen(out),
         line,
         b"not read: the input is no whole header, design and plan\n",
     )
@@ -91,17 +93,17 @@ fn put_reply(out: &mut [u8], at: usize, number: usize, value: usize) -> usize
 }
 
 // Somebody replies with a number, and a place beside it.
-pub fn refuse(line: &mut [u8], who: &[u8], number: usize, value: usize) -> bool {
+pub fn refuse(out: Stdout, line: &mut [u8], who: &[u8], number: usize, value: usize) -> bool {
     let at = put_word(line, 0, b"not drawn: ");
     let at = put_word(line, at, who);
     let at = put_word(line, at, b" replies");
     let at = put_reply(line, at, number, value);
     let at = put_byte(line, at, b'\n');
-    write(new_pen(), line, at).fine
+    write(new_pen(out), line, at).fine
 }
 
 // Somebody refuses.
-pub fn refuse_by(line: &mut [u8], who: &[u8], e: Refusal) -> bool {
+pub fn refuse_by(out: Stdout, line: &mut [u8], who: &[u8], e: Refusal) -> bool {
     let said = number_of(e);
-    refuse(line, who, said.0, said.1)
+    refuse(out, line, who, said.0, said.1)
 }

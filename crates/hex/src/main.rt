@@ -2,8 +2,7 @@
 // follow; or r, and a line follows that says what is wrong. There is no output where the input could not be read.
 #![tactic(auto)]
 
-use libc::STDOUT_FILENO;
-use taking::{say_unread, take_all};
+use taking::{say_unread, take_all, write_or_say};
 use typed::answer_text;
 
 // A byte more than the longest text, to tell whether there is more.
@@ -11,15 +10,15 @@ const TEXT_SIZE: usize = 65_536;
 
 const MOST_TEXT: usize = TEXT_SIZE - 1;
 
-fn main() {
+fn main(rt: HostRuntime) {
     let mut text = [0u8; TEXT_SIZE];
-    let taken = take_all(&mut text);
-    if taken.failed {
-        say_unread();
+    let taken = take_all(&mut rt.reader(), &mut text);
+    if let Some(why) = taken.failed {
+        say_unread(&rt, why);
         return;
     }
     let count = taken.count;
     let mut out = [0u8; TEXT_SIZE];
     let length = answer_text(&text[0..count], MOST_TEXT, &mut out);
-    io::write_all(STDOUT_FILENO, &out[0..length]);
+    write_or_say(&rt, &out[0..length]);
 }

@@ -3,8 +3,7 @@
 // be read.
 #![tactic(auto)]
 
-use libc::STDOUT_FILENO;
-use taking::{say_unread, take_all};
+use taking::{say_unread, take_all, write_or_say};
 use typed::answer_back;
 
 // A byte more than the most that are turned, to tell whether there are more. No design has so many.
@@ -15,15 +14,15 @@ const MOST_BYTES: usize = BYTES_SIZE - 1;
 // A line for each byte at most, which takes less than 64.
 const TEXT_SIZE: usize = 64 * BYTES_SIZE;
 
-fn main() {
+fn main(rt: HostRuntime) {
     let mut bytes = [0u8; BYTES_SIZE];
-    let taken = take_all(&mut bytes);
-    if taken.failed {
-        say_unread();
+    let taken = take_all(&mut rt.reader(), &mut bytes);
+    if let Some(why) = taken.failed {
+        say_unread(&rt, why);
         return;
     }
     let count = taken.count;
     let mut out = [0u8; TEXT_SIZE];
     let length = answer_back(&bytes[0..count], MOST_BYTES, &mut out);
-    io::write_all(STDOUT_FILENO, &out[0..length]);
+    write_or_say(&rt, &out[0..length]);
 }

@@ -5,7 +5,7 @@
 ghost use Rattle.std.specs.Prelude.{◌+◌, ◌≤◌, ◌<◌, length};
 
 use check::same;
-use libc::{STDIN_FILENO, STDOUT_FILENO};
+use taking::{say_unread, take_all, write_or_say};
 use typed::{answer_back, answer_text};
 
 const ALL_CASES: usize = 65536;
@@ -44,52 +44,80 @@ fn is_done(answer: &[u8]) -> bool {
 }
 
 // Turns an answer's bytes back, and prints the text and whether it says the same.
-fn turn_back(answer: &[u8], back: &mut [u8], again: &mut [u8]) {
+fn turn_back(rt: &(impl Print + Eprint), answer: &[u8], back: &mut [u8], again: &mut [u8]) {
     let n = answer_back(rest(answer), ROOM, back);
-    io::write_all(STDOUT_FILENO, rest(&back[0..n]));
+    write_or_say(rt, rest(&back[0..n]));
     let k = answer_text(rest(&back[0..n]), ROOM, again);
     if same(&again[0..k], answer) {
-        io::write_all(STDOUT_FILENO, b"same\n");
+        write_or_say(rt, b"same\n");
         return;
     }
-    io::write_all(STDOUT_FILENO, b"different\n");
+    write_or_say(rt, b"different\n");
 }
 
 // Turns a text, and turns it back if it is good.
-fn turn_text(text: &[u8], bytes: &mut [u8], back: &mut [u8], again: &mut [u8]) {
+fn turn_text(
+    rt: &(impl Print + Eprint),
+    text: &[u8],
+    bytes: &mut [u8],
+    back: &mut [u8],
+    again: &mut [u8],
+) {
     let n = answer_text(text, ROOM, bytes);
     if is_done(&bytes[0..n]) {
-        turn_back(&bytes[0..n], back, again);
+        turn_back(rt, &bytes[0..n], back, again);
         return;
     }
-    io::write_all(STDOUT_FILENO, rest(&bytes[0..n]));
+    write_or_say(rt, rest(&bytes[0..n]));
 }
 
 // Turns the case at a place, and gives the place of the next one.
-fn run_case(cases: &[u8], at: usize, bytes: &mut [u8], back: &mut [u8], again: &mut [u8]) -> usize
+fn run_case(
+    rt: &(impl Print + Eprint),
+    cases: &[u8],
+    at: usize,
+    bytes: &mut [u8],
+    back: &mut [u8],
+    again: &mut [u8],
+) -> usize
     requires { at + 2 ≤ length cases.now }
     ensures { (at < result) × (result ≤ length cases.now) }
 {
     let start = at + 2;
     let long = wide(cases[at]) + 256 * wide(cases[at + 1]);
     let taken = lesser(long, cases.len() - start);
-    turn_text(&cases[start..start + taken], bytes, back, again);
+    turn_text(rt, &cases[start..start + taken], bytes, back, again);
     start + taken
 }
 
 // Turns the cases one after the other.
-fn run_cases(cases: &[u8], bytes: &mut [u8], back: &mut [u8], again: &mut [u8]) {
+fn run_cases(
+    rt: &(impl Print + Eprint),
+    cases: &[u8],
+    bytes: &mut [u8],
+    back: &mut [u8],
+    again: &mut [u8],
+) {
     let mut at = 0;
     while at + 2 <= cases.len() {
-        at = run_case(cases, at, bytes, back, again);
+        at = run_case(rt, cases, at, bytes, back, again);
     }
 }
 
-fn main() {
+fn main(rt: HostRuntime) {
     let mut input = [0u8; ALL_CASES];
-    let count = io::read_full(STDIN_FILENO, &mut input);
+    let taken = take_all(&mut rt.reader(), &mut input);
+    if let Some(why) = taken.failed {
+        say_unread(&rt, why);
+    }
     let mut bytes = [0u8; ROOM];
     let mut back = [0u8; ROOM];
     let mut again = [0u8; ROOM];
-    run_cases(&input[0..count], &mut bytes, &mut back, &mut again);
+    run_cases(
+        &rt,
+        &input[0..taken.count],
+        &mut bytes,
+        &mut back,
+        &mut again,
+    );
 }

@@ -3,7 +3,7 @@
 
 ghost use Rattle.std.specs.Prelude.{◌≤◌, length};
 
-use libc::STDOUT_FILENO;
+use std::io::Stdout;
 use std::num::wrapping_add_usize;
 use telling::{put_byte, put_number, put_word};
 
@@ -18,7 +18,7 @@ const NAME_LEFT: usize = 24;
 const WORDS_LEFT: usize = 44;
 
 // Lines are text, or they are SVG at height y; dry, they are counted and not written. It is fine as long as every line was
-// written whole. It has said so many cuts.
+// written whole. It has said so many cuts. It writes to standard output, which only main can lend it.
 #[derive(Clone, Copy)]
 pub struct Pen {
     pub svg: bool,
@@ -26,6 +26,7 @@ pub struct Pen {
     pub y: usize,
     pub cuts: usize,
     pub fine: bool,
+    pub out: Stdout,
 }
 
 // Puts a number in decimal, with nothing before it.
@@ -49,13 +50,13 @@ pub fn put_attribute(out: &mut [u8], at: usize, name: &[u8], n: usize) -> usize
 }
 
 // Every byte of a line is written. A line that fills its room may have lost its end, so it counts as not written.
-fn is_written(line: &[u8], n: usize) -> bool
+fn is_written(out: Stdout, line: &[u8], n: usize) -> bool
     requires { n ≤ length line.now }
 {
     if n == line.len() {
         return false;
     }
-    io::write_all(STDOUT_FILENO, &line[0..n])
+    out.write_all(&line[0..n]).is_ok()
 }
 
 // Writes the first n bytes of a line.
@@ -73,7 +74,8 @@ pub fn write(pen: Pen, line: &[u8], n: usize) -> Pen
         dry: false,
         y: pen.y,
         cuts: pen.cuts,
-        fine: is_written(line, n),
+        fine: is_written(pen.out, line, n),
+        out: pen.out,
     }
 }
 
@@ -118,6 +120,7 @@ fn lower(pen: Pen) -> Pen {
         y: wrapping_add_usize(pen.y, LINE),
         cuts: pen.cuts,
         fine: pen.fine,
+        out: pen.out,
     }
 }
 
@@ -129,6 +132,7 @@ pub fn with_cut(pen: Pen) -> Pen {
         y: pen.y,
         cuts: wrapping_add_usize(pen.cuts, 1),
         fine: pen.fine,
+        out: pen.out,
     }
 }
 

@@ -1,6 +1,6 @@
 // The plan program.
 #![tactic(auto)]
 
-fn main() {
-    running::run_plan();
+fn main(rt: HostRuntime) {
+    running::run_plan(&rt);
 }

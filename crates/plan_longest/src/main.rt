@@ -1,6 +1,6 @@
 // The plan program on the longest lawful design: all of it is read.
 #![tactic(auto)]
 
-fn main() {
-    running::run_plan();
+fn main(rt: HostRuntime) {
+    running::run_plan(&rt);
 }

@@ -21,15 +21,17 @@ use pen::Pen;
 use places::words_top;
 use regions::{draw_box, draw_regions};
 use rules::{Chip, Design, Shape};
+use std::io::Stdout;
 
 // A pen at a height; a dry one only measures.
-fn pen_at(y: usize, dry: bool) -> Pen {
+fn pen_at(out: Stdout, y: usize, dry: bool) -> Pen {
     Pen {
         svg: true,
         dry,
         y,
         cuts: 0,
         fine: true,
+        out,
     }
 }
 
@@ -76,19 +78,19 @@ fn draw_sheet(
 }
 
 // How far down the words about the regions go that begin at a height: they are said with a dry pen.
-fn bottom_of(line: &mut [u8], design: Design, rows: &[u8], top: usize) -> usize
+fn bottom_of(out: Stdout, line: &mut [u8], design: Design, rows: &[u8], top: usize) -> usize
     requires { Drawable design rows.now }
 {
-    say_regions(pen_at(top, true), line, design, rows).y
+    say_regions(pen_at(out, top, true), line, design, rows).y
 }
 
 // Writes a floorplan as an SVG drawing, and says whether every line was written.
-pub fn render(line: &mut [u8], design: Design, rows: &[u8], size: Shape) -> bool
+pub fn render(out: Stdout, line: &mut [u8], design: Design, rows: &[u8], size: Shape) -> bool
     requires { Drawable design rows.now × (size.w.0 ≤ most_columns) × (size.h.0 ≤ most_rows) }
 {
     let top = words_top(design.chip.height);
-    let bottom = bottom_of(line, design, rows, top);
-    let pen = draw_sheet(pen_at(top, false), line, design, rows, size, bottom);
+    let bottom = bottom_of(out, line, design, rows, top);
+    let pen = draw_sheet(pen_at(out, top, false), line, design, rows, size, bottom);
     let pen = say_regions(pen, line, design, rows);
     end_sheet(pen, line).fine
 }

@@ -4,10 +4,10 @@
 
 ghost use Rattle.std.specs.Prelude.{◌+◌, ◌≤◌, ◌<◌, length};
 
-use libc::{STDIN_FILENO, STDOUT_FILENO};
 use program::{MOST_INPUT, WORK};
 use rules::MOST_MODULES;
 use saying::{LINE_SIZE, say};
+use taking::{say_unread, take_all, write_or_say};
 
 const ALL_CASES: usize = 65536;
 
@@ -26,7 +26,14 @@ fn lesser(a: usize, b: usize) -> usize
 }
 
 // Runs the case at a place, and gives the place of the next one.
-fn run_case(cases: &[u8], at: usize, work: &mut [u8], rows: &mut [u8], line: &mut [u8]) -> usize
+fn run_case(
+    rt: &(impl Print + Eprint),
+    cases: &[u8],
+    at: usize,
+    work: &mut [u8],
+    rows: &mut [u8],
+    line: &mut [u8],
+) -> usize
     requires { at + 2 ≤ length cases.now }
     ensures { (at < result) × (result ≤ length cases.now) }
 {
@@ -35,23 +42,32 @@ fn run_case(cases: &[u8], at: usize, work: &mut [u8], rows: &mut [u8], line: &mu
     let rest = lesser(long, cases.len() - start);
     let taken = lesser(rest, MOST_INPUT);
     let length = say(&cases[start..start + taken], work, rows, line);
-    io::write_all(STDOUT_FILENO, &line[0..length]);
+    write_or_say(rt, &line[0..length]);
     start + rest
 }
 
 // Runs the cases one after the other.
-fn run_cases(cases: &[u8], work: &mut [u8], rows: &mut [u8], line: &mut [u8]) {
+fn run_cases(
+    rt: &(impl Print + Eprint),
+    cases: &[u8],
+    work: &mut [u8],
+    rows: &mut [u8],
+    line: &mut [u8],
+) {
     let mut at = 0;
     while at + 2 <= cases.len() {
-        at = run_case(cases, at, work, rows, line);
+        at = run_case(rt, cases, at, work, rows, line);
     }
 }
 
-fn main() {
+fn main(rt: HostRuntime) {
     let mut input = [0u8; ALL_CASES];
-    let count = io::read_full(STDIN_FILENO, &mut input);
+    let taken = take_all(&mut rt.reader(), &mut input);
+    if let Some(why) = taken.failed {
+        say_unread(&rt, why);
+    }
     let mut work = [0u8; WORK];
     let mut rows = [0u8; 4 * MOST_MODULES];
     let mut line = [0u8; LINE_SIZE];
-    run_cases(&input[0..count], &mut work, &mut rows, &mut line);
+    run_cases(&rt, &input[0..taken.count], &mut work, &mut rows, &mut line);
 }

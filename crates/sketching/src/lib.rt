@@ -12,6 +12,7 @@ use describing::{letter_of, put_amount, say_regions, sign_of};
 use pen::{Pen, put_figure, write};
 use rows::rectangle_at;
 use rules::{Chip, Columns, Corner, Design, Rectangle, Rows, Shape};
+use std::io::Stdout;
 use telling::{put_byte, put_number, put_word};
 
 const NO_MODULE: u8 = b'.';
@@ -169,7 +170,7 @@ fn write_picture(pen: Pen, line: &mut [u8], design: Design, rows: &[u8], size: S
 }
 
 // Writes a floorplan as text, and says whether every line was written.
-pub fn sketch(line: &mut [u8], design: Design, rows: &[u8], size: Shape) -> bool
+pub fn sketch(out: Stdout, line: &mut [u8], design: Design, rows: &[u8], size: Shape) -> bool
     requires { Drawable design rows.now }
 {
     let pen = Pen {
@@ -178,6 +179,7 @@ pub fn sketch(line: &mut [u8], design: Design, rows: &[u8], size: Shape) -> bool
         y: 0,
         cuts: 0,
         fine: true,
+        out,
     };
     let pen = write_picture(pen, line, design, rows, size);
     let pen = say_regions(pen, line, design, rows);

@@ -1,5 +1,5 @@
-// Bytes taken from standard input. A read that failed is told from the end of the input, so that nobody takes the front of
-// a design for the whole of it.
+// Bytes taken from standard input, and given to standard output. A read that failed is told from the end of the input, so that
+// nobody takes the front of a design for the whole of it.
 #![tactic(auto)]
 
 ghost use Rattle.std.specs.Prelude.{◌≤◌, length};
@@ -91,4 +91,15 @@ pub fn say_unread(rt: &impl Eprint, why: io::Error) {
 // The same of the output.
 pub fn say_unwritten(rt: &impl Eprint, why: io::Error) {
     let _ = eprintln!(rt; "standard output: {why}");
+}
+
+// Writes all of the bytes, or says why they can't be written; and whether they were.
+pub fn write_or_say(rt: &(impl Print + Eprint), bytes: &[u8]) -> bool {
+    match rt.write_all(bytes) {
+        Ok(()) => true,
+        Err(why) => {
+            say_unwritten(rt, why);
+            false
+        }
+    }
 }
