@@ -21,7 +21,7 @@ use Rattle.rules.specs.Score.{Cost, no_score}
 use Rattle.rules.specs.Reply.{Answer, ScoreAnswer, plainly, refusal, answer, written_answer, planned_answer, scored_answer}
 use Rattle.rules.specs.Service.{work_of, rows_of, Reads, Writes, Lists, Plans, Places, Edits, Checks, Scores}
 use Rattle.rules.specs.Design.{width_of, height_of}
-use Rattle.lending.specs.Lent.{Lent, Stands, Place, given, put}
+use Rattle.lending.specs.Lent.{Lent, Stands, Given, Place, given, put}
 use Rattle.costs.specs.Slices.{cost_in}
 use Rattle.writing.specs.Parts.{design_size}
 
@@ -98,7 +98,7 @@ AskedCheck bytes rows reply = Asked bytes reply (Unit {0}) (λ d. Says {R = Repl
 abbrev pub marked : ℕ → Place ℕ → Place Float → Place Float → ScoreAnswer
 marked n value total last = record { reply = said n value; values = record { total = put total; last = put last } }
 
-abbrev pub asked : Place (List ℕ) → Place (List Float) → Place (List ℕ) → Cost
+abbrev pub asked : Given (List ℕ) → Given (List Float) → Given (List ℕ) → Cost
 asked kinds weights nets = cost_in (given kinds) (given weights) (given nets)
 
 abbrev pub AskedScore : List ℕ → List ℕ → Cost → ScoreAnswer → Type 0

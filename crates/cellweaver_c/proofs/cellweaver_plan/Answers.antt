@@ -1,0 +1,12 @@
+-- `cellweaver_c::cellweaver_plan` meets its contract: the reading is refused, or the service answers. Assumes nothing.
+use mathlib.Core.Path.{refl}
+use Rattle.cellweaver_c.proofs.Asking.{unread_asked, read_asked}
+use Rattle.cellweaver_c.proofs.cellweaver_plan.Goals as goal
+
+pub returns-in-Refused : goal.returns-in-Refused
+returns-in-Refused c =
+    unread_asked c.read-handed.ensures c.in-Refused.is c.say_planned.ensures (refl, refl)
+
+pub returns : goal.returns
+returns c =
+    read_asked c.read-handed.ensures c.in_default.is (record { r = _; served = c.plan.ensures; said = c.say_planned-2.ensures })
