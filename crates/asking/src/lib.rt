@@ -4,7 +4,7 @@
 mod answers;
 mod looking;
 mod names;
-mod scoring;
+mod scores;
 mod services;
 mod writing;
 

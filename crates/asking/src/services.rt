@@ -6,7 +6,7 @@ use crate::answers::{
 };
 use crate::looking::look;
 use crate::names::{Service, service_in, why_unknown};
-use crate::scoring::score;
+use crate::scores::score;
 use crate::writing::write;
 use rules::Design;
 use spelling::{Asked, edit_in};
