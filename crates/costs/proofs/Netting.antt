@@ -19,6 +19,20 @@ use Rattle.rules.proofs.Searching.{test-iffs}
 use Rattle.costs.specs.Slices.{net_there, net_of, first_net, past_net, nets_in}
 use Rattle.costs.specs.Places.{Copied, Taking, NetsFrom}
 
+-- bytes copied one after another
+pub copied_none : {s : List ℕ} {at : ℕ} {members : List ℕ} → length members ≡ most_modules → Copied s at 0 members
+copied_none l = record { places = l; each = λ j h. absurd (omega arith) }
+
+pub copied_more : {s : List ℕ} {at n : ℕ} {members : List ℕ} → n < most_modules → Copied s at n members
+    → Copied s at (n + 1) (set members n (get_or s (at + n) 0))
+copied_more {s} {at} {n} {members} l c =
+    record { places = length-set members n _ ∙ c.places; each = λ j h. go j (eq-or-lt_of_le (omega (arith, h))) }
+  where
+    go : (j : ℕ) → (suc j ≡ n + 1) ⊎ (suc j < n + 1) → get_or (set members n (get_or s (at + n) 0)) j 0 ≡ get_or s (at + j) 0
+    go j (inl e) =
+        let i : j ≡ n = omega arith in let p = c.places in rw i (get_or-set_same members n (get_or s (at + n) 0) 0 (omega arith))
+    go j (inr k) = get_or-set_other members n j (get_or s (at + n) 0) 0 (λ w. absurd (omega arith)) ∙ c.each j (omega arith)
+
 -- a net that is there, and none
 pub first_there : (s : List ℕ) → net_there s ≡ true → first_net s ≡ net_of s
 unfolding first_net
@@ -93,6 +107,16 @@ nets_none (suc k) = refl
 
 left_over : (s : List ℕ) (at : ℕ) → at < length s → 0 < length (drop at s)
 left_over s at h = let e = length-drop at s in omega arith
+
+pub take_none : (bytes : List ℕ) (nets : List Net) → length nets ≡ most_nets → Taking bytes nets 0 0
+take_none bytes nets l = record {
+  done = [];
+  rest = refl;
+  many = refl;
+  few = omega arith;
+  places = l;
+  same = λ i h. absurd (omega arith);
+}
 
 module _ (bytes : List ℕ) (nets : List Net) (count at : ℕ) (z : Taking bytes nets count at) where
   pub take_next : at < length bytes → count < most_nets → (net : Net) → SameNet net (first_net (drop at bytes))
