@@ -40,31 +40,30 @@ sum_of_sources() {
 stamp_of() { printf '%s %s\n' "$(sum_of_sources)" "$(sha256sum <"$1")"; }
 is_fresh() { [ -f "$1" ] && [ -f "$2" ] && [ "$(cat "$2")" = "$(stamp_of "$1")" ]; }
 
-# How many crates of ours NAME is made of, itself among them.
-count_crates() {
+# The crates of ours that NAME is made of, itself among them, each after those that it stands on: rt takes them in this order.
+list_crates() {
     awk -v name="$1" '
         function visit(crate,    list, n, i) {
             if (!(crate in needs) || crate in seen) return
-            seen[crate] = ++count
+            seen[crate] = 1
             n = split(needs[crate], list, " ")
             for (i = 1; i <= n; i++) visit(list[i])
+            print crate
         }
         { sub(/#.*/, "") }
-        split($0, part, ":") == 2 { needs[part[1]] = part[2] }
-        END { visit(name); print count + 0 }' "$root/crates.txt"
+        split($0, part, ":") == 2 { sub(/ .*/, "", part[1]); needs[part[1]] = part[2] }
+        END { visit(name) }' "$root/crates.txt"
 }
 
-# Keeps all that rt says in a log, and tells of each crate that it has proved. Its last line is the status of rt.
-follow() { # LOG COUNT
+# Keeps all that rt says in a log, and tells of each crate that it has proved, and of how many are proved then: all those before it are, since rt
+# passes over what it has proved before. Its last line is the status of rt.
+follow() { # LOG CRATES
     : >"$1"
-    proved=0 status=2
+    crate='' status=2 all=$(printf '%s\n' "$2" | wc -l)
     while IFS= read -r line; do
         case $line in
-        'rt: '*' proved (unchanged'*) proved=$((proved + 1)) ;;
-        'rt: '*' proved ('*)
-            proved=$((proved + 1)) crate=${line#rt: }
-            tell "$proved of $2 proved: ${crate%% *}"
-            ;;
+        'rt: chose '*' for '*) crate=${line##* } ;;
+        'logic=proved '*) tell "$(printf '%s\n' "$2" | sed -n "/^$crate\$/=") of $all proved: $crate" ;;
         'status '*)
             status=${line#status }
             continue
@@ -76,40 +75,39 @@ follow() { # LOG COUNT
 }
 
 # Has rt make a file anew unless it is made from the sources as they are.
-make() { # NAME FILE RT-WORDS..
+make() { # NAME FILE COMMAND..
     name=$1 product=$2 stamp=$root/target/made/$1.stamp log=$root/target/made/$1.log
     shift 2
     has rt || die 'rt, of the Rattle toolchain, is not found'
     ! is_fresh "$product" "$stamp" || return 0
+    crates=$(list_crates "$name")
+    [ -n "$crates" ] || die "there is no crate $name"
     mkdir -p "$root/target/made"
-    # rt takes what it has proved once as built, also where the file is gone
-    [ -f "$product" ] || rm -f "$root/target/stamp/$name"
-    all=$(count_crates "$name")
+    all=$(printf '%s\n' "$crates" | wc -l)
     tell "proving and building $name, $all crates: about $(((all * 8 + 59) / 60)) minutes the first time on two processors, less where little changed"
     tell "all that rt says goes to ${log#"$root"/}"
-    if ! { cd "$root" && rt "$@" 2>&1 </dev/null && echo 'status 0' || echo 'status 1'; } | follow "$log" "$all"; then
+    if ! { cd "$root/crates/$name" && "$@" 2>&1 </dev/null && echo 'status 0' || echo 'status 1'; } | follow "$log" "$crates"; then
         tell "$name is not built; the end of ${log#"$root"/}:"
         tail -n 5 "$log" >&2
         return 2
     fi
     stamp_of "$product" >"$stamp"
 }
-make_program() { make "$1" "$root/target/bin/$1" check "$1"; }
-make_library() { make cellweaver_c "$root/target/staticlib/libcellweaver_c.a" staticlib cellweaver_c; }
 
-# ---- programs, which are for x86-64
+# rt runs what it has built too, on no input here; what it says itself is on its standard error then.
+prove_program() { rt run >/dev/null; }
+make_program() { make "$1" "$(program_of "$1")" prove_program; }
+make_library() { make cellweaver_c "$library" rt lib; }
 
-# The kit's compiled parts for this processor, beside which rt stands; on another processor its emulator too.
-kit() { printf '%s\n' "$(dirname "$(dirname "$(readlink -f "$(command -v rt)")")")/on/$(uname -m)/toolchain"; }
-emulator() { [ ! -x "$1/bin/qemu-x86_64" ] || printf '%s\n' "$1/bin/qemu-x86_64"; }
+# ---- what is made: programs for x86-64 Linux, and a library
 
-# Runs a proved program, with the kit's loader and C library.
+library=$root/crates/cellweaver_c/out/libcellweaver_c.a
+program_of() { printf '%s\n' "$root/crates/$1/out/$1"; }
+
 run_program() { # NAME [WORDS..]
-    kit=$(kit)
-    under=$(emulator "$kit")
-    program=$root/target/bin/$1
+    program=$(program_of "$1")
     shift
-    ${under:+"$under"} "$kit/lib/ld-linux-x86-64.so.2" --library-path "$kit/lib" "$program" "$@"
+    "$program" "$@"
 }
 
 # ---- a C compiler for x86-64, which Debian has
@@ -118,12 +116,7 @@ cc=x86_64-linux-gnu-gcc
 links() { # FOLDER
     printf '#include <stdio.h>\nint main(void) { return puts("") < 0; }\n' | "$cc" -static -x c -o "$1/links" - 2>/dev/null
 }
-compiler_packages() {
-    case $(uname -m) in
-    x86_64) echo gcc libc6-dev ;;
-    *) echo gcc-x86-64-linux-gnu libc6-dev-amd64-cross ;;
-    esac
-}
+compiler_packages='gcc libc6-dev'
 
 as_root() { if [ "$(id -u)" -eq 0 ]; then "$@"; else sudo "$@"; fi; }
 refresh() { # FOLDER
@@ -141,8 +134,8 @@ install() { # FOLDER PACKAGE..
 need_compiler() { # FOLDER
     ! links "$1" || return 0
     refresh "$1"
-    # shellcheck disable=SC2046 # words
-    install "$1" $(compiler_packages)
+    # shellcheck disable=SC2086 # words
+    install "$1" $compiler_packages
 }
 
 # ---- the planner over the library, which lends a design all the work that it wants: the plan program has 65,536 bytes
@@ -151,9 +144,6 @@ make_large() {
     mkdir -p "$large_folder"
     make_library || return 2
     need_compiler "$large_folder"
-    "$cc" -std=c11 -O2 -static -I"$root/include" -o "$large_folder/plan" "$root/examples/plan.c" "$root/target/staticlib/libcellweaver_c.a" >&2
+    "$cc" -std=c11 -O2 -static -I"$root/include" -o "$large_folder/plan" "$root/examples/plan.c" "$library" >&2
 }
-run_large() { # FILE
-    under=$(emulator "$(kit)")
-    ${under:+"$under"} "$root/target/large/plan" "$1"
-}
+run_large() { "$root/target/large/plan" "$1"; } # FILE
