@@ -84,7 +84,7 @@ make() { # NAME FILE COMMAND..
     [ -n "$crates" ] || die "there is no crate $name"
     mkdir -p "$root/target/made"
     all=$(printf '%s\n' "$crates" | wc -l)
-    tell "proving and building $name, $all crates: about $(((all * 8 + 59) / 60)) minutes the first time on two processors, less where little changed"
+    tell "proving and building $name, $all crates: about $(((all * 16 + 59) / 60)) minutes the first time on two processors, less where little changed"
     tell "all that rt says goes to ${log#"$root"/}"
     if ! { cd "$root/crates/$name" && "$@" 2>&1 </dev/null && echo 'status 0' || echo 'status 1'; } | follow "$log" "$crates"; then
         tell "$name is not built; the end of ${log#"$root"/}:"
