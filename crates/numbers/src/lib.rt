@@ -17,6 +17,7 @@ pub enum NumberReply {
 }
 
 // The third and last byte of the number that starts at `start`, above the value of the first two.
+#[tactic(auto, unfolding(rules::specs::Bytes::third_byte))]
 fn third_byte(s: &[u8], start: usize, low: usize) -> NumberReply
     requires { (start + 1 < length s.now) × (low < 16384) }
     ensures { result ≡ reply_of (third_byte s.now start low) }

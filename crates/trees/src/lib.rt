@@ -45,6 +45,7 @@ pub fn position_of(design: Design, k: usize) -> usize
 }
 
 // Whether node t is the one at a position, or a cut above it: a cut is, if one of its children is.
+#[tactic(auto, unfolding(crate::specs::Positions::mark_of))]
 fn mark_of(
     token: Token,
     lefts: [u8; MOST_TOKENS],
