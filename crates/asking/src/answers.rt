@@ -2,7 +2,7 @@
 ghost use Rattle.std.specs.Prelude.{◌≤◌, length};
 
 use replies::{Numbered, number_of};
-use rules::{Design, Handed, Planned, Reply, Written};
+use rules::{Design, Handed};
 use spelling::put_design;
 use telling::{put_byte, put_hash, put_hex, put_number, put_numbers, put_word};
 use words::Why;
@@ -46,15 +46,15 @@ pub fn no_answer(design: Design, why: Why) -> Answer
 }
 
 // A reply's number, and what is said beside it.
-fn said(reply: Reply) -> Numbered {
+fn said(reply: Result<(), Refusal>) -> Numbered {
     match reply {
-        Reply::Done => Numbered(0, 0),
-        Reply::Refused(e) => number_of(e),
+        Ok(()) => Numbered(0, 0),
+        Err(e) => number_of(e),
     }
 }
 
 // A reply: its number, and if two are asked for, what is said beside it.
-pub fn replied(design: Design, reply: Reply, count: usize, shown: Shown) -> Answer
+pub fn replied(design: Design, reply: Result<(), Refusal>, count: usize, shown: Shown) -> Answer
     requires { count ≤ 2 }
     ensures { result.count ≤ 3 }
 {
@@ -79,12 +79,12 @@ pub fn handed_back(handed: Handed, count: usize, shown: Shown) -> Answer
 }
 
 // What a plan or a place comes to: NUMBER W H ROWS WORK
-pub fn planned(design: Design, planned: Planned) -> Answer
+pub fn planned(design: Design, planned: Result<Shape, Refusal>) -> Answer
     ensures { result.count ≤ 3 }
 {
     let numbers = match planned {
-        Planned::Box(s) => [0, s.w.0, s.h.0],
-        Planned::Refused(e) => [number_of(e).0, 0, 0],
+        Ok(s) => [0, s.w.0, s.h.0],
+        Err(e) => [number_of(e).0, 0, 0],
     };
     Answer {
         why: Why::Fine,
@@ -96,12 +96,12 @@ pub fn planned(design: Design, planned: Planned) -> Answer
 }
 
 // What a writing comes to: NUMBER COUNT BYTES
-pub fn written(design: Design, written: Written) -> Answer
+pub fn written(design: Design, written: Result<usize, Refusal>) -> Answer
     ensures { result.count ≤ 3 }
 {
     let numbers = match written {
-        Written::Bytes(n) => [0, n, 0],
-        Written::Refused(e) => [number_of(e).0, 0, 0],
+        Ok(n) => [0, n, 0],
+        Err(e) => [number_of(e).0, 0, 0],
     };
     Answer {
         why: Why::Fine,

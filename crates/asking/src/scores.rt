@@ -5,7 +5,7 @@ ghost use Rattle.spelling.specs.Placed.{Placed};
 use crate::answers::put_bad;
 use costs::score_slices;
 use replies::{Numbered, number_of};
-use rules::{Design, Score, Scored};
+use rules::{Design, Score};
 use spelling::{NET_PLACES, Put, TERM_PLACES, score_in};
 use telling::{put_bits, put_byte, put_number, put_word};
 use words::is_fine;
@@ -23,12 +23,12 @@ fn put_score(out: &mut [u8], said: Numbered, score: Score) -> usize
 }
 
 // A refusal has no values, and shows zeros.
-fn put_scored(out: &mut [u8], scored: Scored) -> usize
+fn put_scored(out: &mut [u8], scored: Result<Score, Refusal>) -> usize
     ensures { result ≤ length out.new }
 {
     match scored {
-        Scored::Values(score) => put_score(out, Numbered(0, 0), score),
-        Scored::Refused(e) => {
+        Ok(score) => put_score(out, Numbered(0, 0), score),
+        Err(e) => {
             let none = Score {
                 total: 0.0,
                 last: 0.0,
@@ -46,7 +46,7 @@ fn scored_by(
     nets: [u8; NET_PLACES],
     design: Design,
     rows: &[u8],
-) -> Scored
+) -> Result<Score, Refusal>
     requires { Placed put }
 {
     let terms = put.terms;

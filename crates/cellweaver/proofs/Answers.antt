@@ -1,4 +1,5 @@
 -- Each answer of a service meets its contract where its condition holds; the conditions of the others contradict it. Assumes nothing.
+use Rattle.std.specs.Prelude.{Ok, Err}
 use mathlib.Core.Path.{◌≡◌, refl, sym, ◌∙◌, ap}
 use mathlib.Core.Logic.{◌⊎◌, inl, inr}
 use mathlib.Core.Bool.{false, So}
@@ -11,11 +12,8 @@ use Rattle.rules.specs.declared.Design.{Design}
 use Rattle.rules.specs.declared.Edit.{Edit}
 use Rattle.rules.specs.declared.Refusal.{Refusal}
 use Rattle.rules.specs.declared.Refusal.TheVariants.{TooShort, Unreliable, NoSuchEdit}
-use Rattle.rules.specs.declared.Reply.{Reply}
-use Rattle.rules.specs.declared.Reply.TheVariants.{Done, Refused}
+use Rattle.rules.specs.Answers.{Reply, Planned}
 use Rattle.rules.specs.declared.Handed.{Handed}
-use Rattle.rules.specs.declared.Planned.{Planned}
-use Rattle.rules.specs.declared.Planned.TheVariants as planned
 use Rattle.rules.specs.Design.{Sized, value_test, LawfulDesign, slots_of, AllStairs}
 use Rattle.rules.specs.Edit.{names_place, changed, EditedLists}
 use Rattle.rules.specs.Check.{verdict, judged_rows, from_rows}
@@ -28,16 +26,16 @@ use Rattle.cellweaver.specs.Tested.{enough_lent}
 
 -- list
 module _ (d : Design) (sized : Sized d) (before : List ℕ) where
-  pub list_refuses : {e : Refusal} → value_test d ≡ Refused e → Lists d before (Refused e) before
+  pub list_refuses : {e : Refusal} → value_test d ≡ Err e → Lists d before (Err e) before
   list_refuses u = record {
     sized = sized;
-    unlawful = λ f q. (ap Refused (same_refusal d u q), refl);
+    unlawful = λ f q. (ap Err (same_refusal d u q), refl);
     short = λ l _. never_both d u l;
     done = λ l _. never_both d u l;
   }
 
   module _ (l : LawfulDesign d) where
-    pub list_short : length before < work_of d → Lists d before (Refused TooShort) before
+    pub list_short : length before < work_of d → Lists d before (Err TooShort) before
     list_short h = record {
       sized = sized;
       unlawful = λ e u. never_both d u l;
@@ -45,7 +43,7 @@ module _ (d : Design) (sized : Sized d) (before : List ℕ) where
       done = λ _ k. absurd (omega arith);
     }
 
-    pub list_done : {after : List ℕ} → work_of d ≤ length before → ListedAfresh d before after → Lists d before Done after
+    pub list_done : {after : List ℕ} → work_of d ≤ length before → ListedAfresh d before after → Lists d before (Ok tt) after
     list_done h z = record {
       sized = sized;
       unlawful = λ e u. never_both d u l;
@@ -70,17 +68,17 @@ module _ (d : Design) (sized : Sized d) (work rows : List ℕ) where
   not_short e (inr h) = let b = e.places in absurd (omega arith)
 
   -- plan
-  pub plan_refuses : {e : Refusal} → value_test d ≡ Refused e → Plans d work rows (planned.Refused e) work rows
+  pub plan_refuses : {e : Refusal} → value_test d ≡ Err e → Plans d work rows (Err e) work rows
   plan_refuses u = record {
     sized = sized;
-    unlawful = λ f q. (ap planned.Refused (same_refusal d u q), refl, refl);
+    unlawful = λ f q. (ap Err (same_refusal d u q), refl, refl);
     short = λ l _. never_both d u l;
     listed = λ e. never_both d u e.lawful;
     none = λ e _. never_both d u e.lawful;
     done = λ e s p _ _. never_both d u e.lawful;
   }
 
-  pub plan_short : LawfulDesign d → enough_lent d work rows ≡ false → Plans d work rows (planned.Refused TooShort) work rows
+  pub plan_short : LawfulDesign d → enough_lent d work rows ≡ false → Plans d work rows (Err TooShort) work rows
   plan_short l f = record {
     sized = sized;
     unlawful = λ e u. never_both d u l;
@@ -101,10 +99,10 @@ module _ (d : Design) (sized : Sized d) (work rows : List ℕ) where
   }
 
   -- place
-  pub place_refuses : {e : Refusal} → value_test d ≡ Refused e → Places d work rows (planned.Refused e) rows
+  pub place_refuses : {e : Refusal} → value_test d ≡ Err e → Places d work rows (Err e) rows
   place_refuses u = record {
     sized = sized;
-    unlawful = λ f q. (ap planned.Refused (same_refusal d u q), refl);
+    unlawful = λ f q. (ap Err (same_refusal d u q), refl);
     short = λ l _. never_both d u l;
     stranger = λ e _. never_both d u e.lawful;
     none = λ e _ _. never_both d u e.lawful;
@@ -112,7 +110,7 @@ module _ (d : Design) (sized : Sized d) (work rows : List ℕ) where
     done = λ e _ s p _ _. never_both d u e.lawful;
   }
 
-  pub place_short : LawfulDesign d → enough_lent d work rows ≡ false → Places d work rows (planned.Refused TooShort) rows
+  pub place_short : LawfulDesign d → enough_lent d work rows ≡ false → Places d work rows (Err TooShort) rows
   place_short l f = record {
     sized = sized;
     unlawful = λ e u. never_both d u l;
@@ -124,7 +122,7 @@ module _ (d : Design) (sized : Sized d) (work rows : List ℕ) where
   }
 
   module _ (e : Enough d work rows) where
-    pub place_stranger : (AllStairs d (slots_of d work) → ⊥) → Places d work rows (planned.Refused Unreliable) rows
+    pub place_stranger : (AllStairs d (slots_of d work) → ⊥) → Places d work rows (Err Unreliable) rows
     place_stranger o = record {
       sized = sized;
       unlawful = λ f u. never_both d u e.lawful;
@@ -148,10 +146,10 @@ module _ (d : Design) (sized : Sized d) (work rows : List ℕ) where
 
 -- edit
 module _ (d : Design) (sized : Sized d) (e : Edit) (before : List ℕ) where
-  pub edit_refuses : {f : Refusal} {r : Handed} → r ≡ record { reply = Refused f; design = d } → value_test d ≡ Refused f → Edits d e before r before
+  pub edit_refuses : {f : Refusal} {r : Handed} → r ≡ record { reply = Err f; design = d } → value_test d ≡ Err f → Edits d e before r before
   edit_refuses q u = record {
     sized = sized;
-    unlawful = λ f p. (q ∙ ap (λ g. record { reply = Refused g; design = d }) (same_refusal d u p), refl);
+    unlawful = λ f p. (q ∙ ap (λ g. record { reply = Err g; design = d }) (same_refusal d u p), refl);
     unnamed = λ l _. never_both d u l;
     short = λ l _ _. never_both d u l;
     stranger = λ l _ _ _. never_both d u l;
@@ -159,7 +157,7 @@ module _ (d : Design) (sized : Sized d) (e : Edit) (before : List ℕ) where
   }
 
   module _ (l : LawfulDesign d) where
-    pub edit_unnamed : {r : Handed} → r ≡ record { reply = Refused NoSuchEdit; design = d } → (So (names_place d e) → ⊥) → Edits d e before r before
+    pub edit_unnamed : {r : Handed} → r ≡ record { reply = Err NoSuchEdit; design = d } → (So (names_place d e) → ⊥) → Edits d e before r before
     edit_unnamed q o = record {
       sized = sized;
       unlawful = λ f u. never_both d u l;
@@ -170,7 +168,7 @@ module _ (d : Design) (sized : Sized d) (e : Edit) (before : List ℕ) where
     }
 
     module _ (s : So (names_place d e)) where
-      pub edit_short : {r : Handed} → r ≡ record { reply = Refused TooShort; design = d } → length before < work_of d → Edits d e before r before
+      pub edit_short : {r : Handed} → r ≡ record { reply = Err TooShort; design = d } → length before < work_of d → Edits d e before r before
       edit_short q h = record {
         sized = sized;
         unlawful = λ f u. never_both d u l;
@@ -181,7 +179,7 @@ module _ (d : Design) (sized : Sized d) (e : Edit) (before : List ℕ) where
       }
 
       module _ (h : work_of d ≤ length before) where
-        pub edit_stranger : {r : Handed} → r ≡ record { reply = Refused Unreliable; design = d } → (AllStairs d (slots_of d before) → ⊥) → Edits d e before r before
+        pub edit_stranger : {r : Handed} → r ≡ record { reply = Err Unreliable; design = d } → (AllStairs d (slots_of d before) → ⊥) → Edits d e before r before
         edit_stranger q o = record {
           sized = sized;
           unlawful = λ f u. never_both d u l;
@@ -192,23 +190,23 @@ module _ (d : Design) (sized : Sized d) (e : Edit) (before : List ℕ) where
         }
 
         pub edit_done : {next : Design} {after : List ℕ} → next ≡ changed d e → AllStairs d (slots_of d before) → EditedLists d e before after
-            → Edits d e before (record { reply = Done; design = next }) after
+            → Edits d e before (record { reply = (Ok tt); design = next }) after
         edit_done q z m = record {
           sized = sized;
           unlawful = λ f u. never_both d u l;
           unnamed = λ _ o. absurd (o s);
           short = λ _ _ k. absurd (omega arith);
           stranger = λ _ _ _ o. absurd (o z);
-          done = λ _ _ _ _. (ap (λ n. record { reply = Done; design = n }) q, m);
+          done = λ _ _ _ _. (ap (λ n. record { reply = (Ok tt); design = n }) q, m);
         }
 
 -- check
 module _ (d : Design) (sized : Sized d) (rows : List ℕ) where
-  pub check_refuses : {e : Refusal} → value_test d ≡ Refused e → Checks d rows (Refused e)
+  pub check_refuses : {e : Refusal} → value_test d ≡ Err e → Checks d rows (Err e)
   unfolding verdict
   check_refuses u = record { sized = sized; judged = rw (verdict, u) }
 
-  pub check_short : LawfulDesign d → length rows < 4 * d.modules → Checks d rows (Refused TooShort)
+  pub check_short : LawfulDesign d → length rows < 4 * d.modules → Checks d rows (Err TooShort)
   unfolding verdict
   check_short l h = record { sized = sized; judged = rw (verdict, l, lt-leb (4 * d.modules) (length rows) h) }
 

@@ -1,4 +1,5 @@
 -- Each answer of score meets its contract where its condition holds; the conditions of the others contradict it. Assumes nothing.
+use Rattle.std.specs.Prelude.{Ok, Err}
 use mathlib.Core.Path.{◌≡◌, refl, sym, ◌∙◌, ap}
 use mathlib.Core.Bool.{false}
 use mathlib.Core.List.{List}
@@ -6,10 +7,7 @@ use Prim.Native.Nat.{ℕ}
 use Rattle.rules.specs.declared.Design.{Design}
 use Rattle.rules.specs.declared.Refusal.{Refusal}
 use Rattle.rules.specs.declared.Refusal.TheVariants.{BadTerm, BadNet}
-use Rattle.rules.specs.declared.Reply.TheVariants.{Done, Refused}
 use Rattle.rules.specs.declared.Score.{Score}
-use Rattle.rules.specs.declared.Scored.TheVariants.{Values}
-use Rattle.rules.specs.declared.Scored.TheVariants as scored
 use Rattle.rules.specs.Design.{Sized}
 use Rattle.rules.specs.Check.{verdict, from_rows}
 use Rattle.rules.specs.Score.{Cost, lawful_terms, lawful_nets, score_of}
@@ -21,17 +19,17 @@ use Rattle.rules.proofs.Scoring.{terms_limits}
 use Rattle.scoring.specs.Amounts.{Ready}
 
 module _ (d : Design) (sized : Sized d) (rows : List ℕ) (c : Cost) where
-  pub score_refuses : {e : Refusal} → verdict d rows ≡ Refused e → Scores d rows c (scored.Refused e)
+  pub score_refuses : {e : Refusal} → verdict d rows ≡ Err e → Scores d rows c (Err e)
   score_refuses u = record {
     sized = sized;
-    judged = λ f q. ap scored.Refused (one_refusal u q);
+    judged = λ f q. ap Err (one_refusal u q);
     bad_term = λ p _. not_both u p;
     bad_net = λ p _ _. not_both u p;
     done = λ p _ _. not_both u p;
   }
 
-  module _ (passed : verdict d rows ≡ Done) where
-    pub score_bad_term : lawful_terms c.terms c.term_count ≡ false → Scores d rows c (scored.Refused BadTerm)
+  module _ (passed : verdict d rows ≡ (Ok tt)) where
+    pub score_bad_term : lawful_terms c.terms c.term_count ≡ false → Scores d rows c (Err BadTerm)
     score_bad_term f = record {
       sized = sized;
       judged = λ e u. not_both u passed;
@@ -41,7 +39,7 @@ module _ (d : Design) (sized : Sized d) (rows : List ℕ) (c : Cost) where
     }
 
     module _ (terms : TermsLawful c) where
-      pub score_bad_net : lawful_nets d.modules c.nets c.net_count ≡ false → Scores d rows c (scored.Refused BadNet)
+      pub score_bad_net : lawful_nets d.modules c.nets c.net_count ≡ false → Scores d rows c (Err BadNet)
       score_bad_net f = record {
         sized = sized;
         judged = λ e u. not_both u passed;
@@ -58,11 +56,11 @@ module _ (d : Design) (sized : Sized d) (rows : List ℕ) (c : Cost) where
               terms = (terms_limits c.terms c.term_count terms).most;
             }
 
-        pub score_done : {s : Score} → s ≡ score_of d (from_rows rows) c → Scores d rows c (Values s)
+        pub score_done : {s : Score} → s ≡ score_of d (from_rows rows) c → Scores d rows c (Ok s)
         score_done e = record {
           sized = sized;
           judged = λ f u. not_both u passed;
           bad_term = λ _ n. absurd (n terms);
           bad_net = λ _ _ n. absurd (n nets);
-          done = λ _ _ _. ap Values e;
+          done = λ _ _ _. ap Ok e;
         }

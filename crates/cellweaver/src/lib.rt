@@ -16,10 +16,7 @@ use editing::{changed_node, names_place, with_change};
 use lawful::value_test;
 use listing::{list_all, list_way};
 use placing::place_lists;
-use rules::{
-    Design, Edit, Handed, MOST_NETS, MOST_TERMS, Net, Planned, Refusal, Reply, Scored, Term,
-    Written,
-};
+use rules::{Design, Edit, Handed, MOST_NETS, MOST_TERMS, Net, Refusal, Term};
 use scoring::{are_nets, are_terms, score_rows};
 use slots::board_of;
 use stairs::all_stairs;
@@ -59,55 +56,55 @@ pub fn read(bytes: &[u8]) -> Handed
 }
 
 // Writes a design to bytes.
-pub fn write(design: Design, out: &mut [u8]) -> Written
+pub fn write(design: Design, out: &mut [u8]) -> Result<usize, Refusal>
     ensures { Writes design out.old result out.new }
 {
     writing::write_design(design, out)
 }
 
 // Fills the lists.
-pub fn list(design: Design, work: &mut [u8]) -> Reply
+pub fn list(design: Design, work: &mut [u8]) -> Result<(), Refusal>
     ensures { Lists design work.old result work.new }
 {
     let reply = value_test(design);
-    if let Reply::Refused(e) = reply {
-        return Reply::Refused(e);
+    if let Err(e) = reply {
+        return Err(e);
     }
     if work.len() < work_needed(design) {
-        return Reply::Refused(Refusal::TooShort);
+        return Err(Refusal::TooShort);
     }
     list_all(work, design);
-    Reply::Done
+    Ok(())
 }
 
 // Fills the lists, then places from them.
-pub fn plan(design: Design, work: &mut [u8], rows: &mut [u8]) -> Planned
+pub fn plan(design: Design, work: &mut [u8], rows: &mut [u8]) -> Result<Shape, Refusal>
     ensures { Plans design work.old rows.old result work.new rows.new }
 {
     let reply = value_test(design);
-    if let Reply::Refused(e) = reply {
-        return Planned::Refused(e);
+    if let Err(e) = reply {
+        return Err(e);
     }
     if !enough_lent(design, work, rows) {
-        return Planned::Refused(Refusal::TooShort);
+        return Err(Refusal::TooShort);
     }
     list_all(work, design);
     place_lists(design, work, rows)
 }
 
 // Places from lists already filled, whoever filled them.
-pub fn place(design: Design, work: &[u8], rows: &mut [u8]) -> Planned
+pub fn place(design: Design, work: &[u8], rows: &mut [u8]) -> Result<Shape, Refusal>
     ensures { Places design work.now rows.old result rows.new }
 {
     let reply = value_test(design);
-    if let Reply::Refused(e) = reply {
-        return Planned::Refused(e);
+    if let Err(e) = reply {
+        return Err(e);
     }
     if !enough_lent(design, work, rows) {
-        return Planned::Refused(Refusal::TooShort);
+        return Err(Refusal::TooShort);
     }
     if !are_stairs(design, work) {
-        return Planned::Refused(Refusal::Unreliable);
+        return Err(Refusal::Unreliable);
     }
     place_lists(design, work, rows)
 }
@@ -117,7 +114,7 @@ pub fn edit(design: Design, change: Edit, work: &mut [u8]) -> Handed
     ensures { Edits design change work.old result work.new }
 {
     let reply = value_test(design);
-    if let Reply::Refused(e) = reply {
+    if let Err(e) = reply {
         return refused(design, e);
     }
     if !names_place(design, change) {
@@ -132,7 +129,7 @@ pub fn edit(design: Design, change: Edit, work: &mut [u8]) -> Handed
     let next = with_change(design, change);
     list_way(work, next, changed_node(design, change));
     Handed {
-        reply: Reply::Done,
+        reply: Ok(()),
         design: next,
     }
 }
@@ -142,21 +139,21 @@ fn refused(design: Design, e: Refusal) -> Handed
     ensures { result ≡ record { reply = Refused e; design = design } }
 {
     Handed {
-        reply: Reply::Refused(e),
+        reply: Err(e),
         design,
     }
 }
 
 // Judges a floorplan, without lists.
-pub fn check(design: Design, rows: &[u8]) -> Reply
+pub fn check(design: Design, rows: &[u8]) -> Result<(), Refusal>
     ensures { Checks design rows.now result }
 {
     let reply = value_test(design);
-    if let Reply::Refused(e) = reply {
-        return Reply::Refused(e);
+    if let Err(e) = reply {
+        return Err(e);
     }
     if rows.len() < 4 * design.modules {
-        return Reply::Refused(Refusal::TooShort);
+        return Err(Refusal::TooShort);
     }
     judge_rows(design, rows)
 }
@@ -169,18 +166,18 @@ pub fn score(
     term_count: usize,
     nets: [Net; MOST_NETS],
     net_count: usize,
-) -> Scored
+) -> Result<Score, Refusal>
     ensures { Scores design rows.now (cost terms term_count nets net_count) result }
 {
     let reply = check(design, rows);
-    if let Reply::Refused(e) = reply {
-        return Scored::Refused(e);
+    if let Err(e) = reply {
+        return Err(e);
     }
     if !are_terms(terms, term_count) {
-        return Scored::Refused(Refusal::BadTerm);
+        return Err(Refusal::BadTerm);
     }
     if !are_nets(design.modules, nets, net_count) {
-        return Scored::Refused(Refusal::BadNet);
+        return Err(Refusal::BadNet);
     }
-    Scored::Values(score_rows(design, rows, terms, term_count, nets, net_count))
+    Ok(score_rows(design, rows, terms, term_count, nets, net_count))
 }

@@ -1,4 +1,5 @@
 -- What is read decides which part of a contract speaks: a refused reading is told from one that is done by its reply. Assumes nothing.
+use Rattle.std.specs.Prelude.{Ok, Err}
 use mathlib.Core.Path.{◌≡◌, refl, ap}
 use mathlib.Core.List.{List}
 use Prim.Native.Nat.{ℕ}
@@ -7,9 +8,7 @@ use lib.Ieee.{binary64, of_bits}
 use Rattle.rules.specs.declared.Design.{Design}
 use Rattle.rules.specs.declared.Refusal.{Refusal}
 use Rattle.rules.specs.declared.Refusal.TheVariants.{Unfinished, Malformed, WrongForm, BreaksLimits, BadToken, NotOneThing, ExtraBytes, TooShort, Unreliable, NoPlacement, NoSuchEdit, OffTheChip, ShortOfNeed, CutNotKept, BadTerm, BadNet}
-use Rattle.rules.specs.declared.Reply.TheVariants.{Done, Refused}
 use Rattle.rules.specs.declared.Handed.{Handed}
-use Rattle.rules.specs.declared.Scored.TheVariants as scored
 use Rattle.rules.specs.Design.{LawfulDesign}
 use Rattle.rules.specs.Bytes.{took, refuse}
 use Rattle.rules.specs.Reply.{Answer, ScoreAnswer, plainly, refusal, answer, scored_answer}
@@ -43,21 +42,21 @@ said_refused e s = rw (s.0, s.1) (refused_plainly e)
 
 -- a refused score has zeros, which the code writes out
 pub unscored_answer : (e : Refusal) {a : Answer} → a ≡ refusal e
-    → ◌≡◌ {A = ScoreAnswer} (record { reply = a; values = record { total = of_bits binary64 0; last = of_bits binary64 0 } }) (scored_answer (scored.Refused e))
+    → ◌≡◌ {A = ScoreAnswer} (record { reply = a; values = record { total = of_bits binary64 0; last = of_bits binary64 0 } }) (scored_answer (Err e))
 unscored_answer e q = rw (q, zero_is)
 
 -- what is read is lawful
-pub reads_lawful : (bytes : List ℕ) {h : Handed} → Reads bytes h → h.reply ≡ Done → LawfulDesign h.design
+pub reads_lawful : (bytes : List ℕ) {h : Handed} → Reads bytes h → h.reply ≡ (Ok tt) → LawfulDesign h.design
 reads_lawful bytes {h} x q = let (n, t) = done_took bytes h x (ap (λ r. (answer r).number) q) in (read_lawful bytes h.design n t).0
 
 module _ {bytes : List ℕ} {h : Handed} (reading : Reads bytes h) {reply : Answer} {Stands : Type 0} {Served : Design → Type 0} where
-  pub unread_asked : {e : Refusal} → h.reply ≡ Refused e → reply ≡ refusal e → Stands → Asked bytes reply Stands Served
+  pub unread_asked : {e : Refusal} → h.reply ≡ Err e → reply ≡ refusal e → Stands → Asked bytes reply Stands Served
   unread_asked {e} q s z = record {
     unread = λ f t. let r : h ≡ handed (refuse f) = rw t at reading in let x : e ≡ f = cc (ap (λ g. g.reply) r) in (rw (← x) s, z);
     read = λ d n t. let r : h ≡ handed (took d n) = rw t at reading in let x : ◌≡◌ {A = ℕ} 0 1 = cc (ap (λ g. g.reply) r) in absurd (omega arith);
   }
 
-  pub read_asked : h.reply ≡ Done → Served h.design → Asked bytes reply Stands Served
+  pub read_asked : h.reply ≡ (Ok tt) → Served h.design → Asked bytes reply Stands Served
   read_asked q s = record {
     unread = λ f t. let r : h ≡ handed (refuse f) = rw t at reading in let x : ◌≡◌ {A = ℕ} 0 1 = cc (ap (λ g. g.reply) r) in absurd (omega arith);
     read = λ d n t. let r : h ≡ handed (took d n) = rw t at reading in rw (ap (λ g. g.design) r) at s;

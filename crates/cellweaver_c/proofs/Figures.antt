@@ -1,13 +1,13 @@
 -- D's figures from its bytes: a function that exchanges the places of two sizes, of the box's two sides, of a score's two values or of two kinds
 -- of term, or takes a net's bytes otherwise, breaks its contract.
 -- Assumes nothing.
+use Rattle.std.specs.Prelude.{Ok}
 use mathlib.Core.Path.{◌≡◌, refl, ◌∙◌, ap}
 use mathlib.Core.List.{[], ◌∷◌}
 use Prim.Native.Nat.{◌≤◌}
 use native.Mathlib.Omega.{arith}
 use lib.ListN.{length}
 use lib.Ieee.{add, mul, le, of_int}
-use Rattle.rules.specs.declared.Planned.TheVariants.{Box}
 use Rattle.rules.specs.Search.{all}
 use Rattle.rules.specs.Chip.{shape}
 use Rattle.rules.specs.Tree.{stands, has, joined, added, standing}
@@ -41,7 +41,7 @@ sizes_of_D s reply x = (x.read D _ D_read).1
 
 -- a box 4 wide and 3 high
 pub box_of_D : (work rows : Lent) (reply : Answer) → 450 ≤ length work.came → 8 ≤ length rows.came
-    → AskedPlan (design_bytes D) work rows reply → reply ≡ planned_answer (Box (shape 4 3))
+    → AskedPlan (design_bytes D) work rows reply → reply ≡ planned_answer (Ok (shape 4 3))
 unfolding Says
 box_of_D work rows reply h k x =
     let s = x.read D _ D_read in let enough = D_enough work.came rows.came h k in

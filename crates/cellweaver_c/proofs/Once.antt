@@ -1,5 +1,6 @@
 -- "Prove that two replies allowed by it are equal": for each function, reply and lent bytes. The bytes are one design or one refusal;
 -- over a design the service's two answers are equal. Assumes nothing.
+use Rattle.std.specs.Prelude.{Ok, Err}
 use mathlib.Core.Path.{◌≡◌, refl, sym, ◌∙◌, ap}
 use mathlib.Core.Logic.{◌⊎◌, ⊎_elim}
 use mathlib.Core.Bool.{So}
@@ -11,8 +12,7 @@ use lib.ListN.{length}
 use Rattle.rules.specs.declared.Design.{Design}
 use Rattle.rules.specs.declared.Edit.{Edit}
 use Rattle.rules.specs.declared.Refusal.{Refusal}
-use Rattle.rules.specs.declared.Reply.{Reply}
-use Rattle.rules.specs.declared.Reply.TheVariants.{Done, Refused}
+use Rattle.rules.specs.Answers.{Reply}
 use Rattle.rules.specs.declared.Handed.{Handed}
 use Rattle.rules.specs.Edit.{names_place}
 use Rattle.rules.specs.Bytes.{Took, took, refuse, design_at}
@@ -39,8 +39,8 @@ put_once : {h : Handed} {out out' out'' : List ℕ} {a a' : Answer} → PutsBack
 put_once {h} {out} {out'} {out''} {a} {a'} p q = go h.reply refl
   where
     go : (r : Reply) → h.reply ≡ r → (a ≡ a') × (out' ≡ out'')
-    go Done e = both (p.done e) (q.done e)
-    go (Refused f) e = both (p.refused f e) (q.refused f e)
+    go (Ok tt) e = both (p.done e) (q.done e)
+    go (Err f) e = both (p.refused f e) (q.refused f e)
 
 edit_once : (d : Design) (e : Edit) (before out : List ℕ) {a a' : Answer} {after after' out' out'' : List ℕ}
     → EditsInto d e (lending before after) (lending out out') a → EditsInto d e (lending before after') (lending out out'') a'

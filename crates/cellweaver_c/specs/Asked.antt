@@ -1,19 +1,15 @@
 -- The services as C and Rust call them. There a design is always its bytes, so each function reads them first; then it asks the
 -- service, whose predicate (`Service.antt` of the rules) says the rest. A reply is its number, returned, and what is put into the
 -- caller's places.
-use Rattle.std.specs.Prelude.{◌≡◌, List, ◌++◌, ℕ, ◌≤◌, ◌<◌, length, drop, Float}
+use Rattle.std.specs.Prelude.{◌≡◌, List, ◌++◌, ℕ, ◌≤◌, ◌<◌, length, drop, Float, Ok, Err}
 use Rattle.std.proofs.Math.Bool.{So}
 use Rattle.rules.specs.declared.Design.{Design}
 use Rattle.rules.specs.declared.Edit.{Edit}
 use Rattle.rules.specs.declared.Edit.TheVariants.{Change}
 use Rattle.rules.specs.declared.Refusal.{Refusal}
 use Rattle.rules.specs.declared.Refusal.TheVariants.{TooShort, NoSuchEdit}
-use Rattle.rules.specs.declared.Reply.{Reply}
-use Rattle.rules.specs.declared.Reply.TheVariants.{Done, Refused}
+use Rattle.rules.specs.Answers.{Reply, Written, Planned, Scored}
 use Rattle.rules.specs.declared.Handed.{Handed}
-use Rattle.rules.specs.declared.Written.{Written}
-use Rattle.rules.specs.declared.Planned.{Planned}
-use Rattle.rules.specs.declared.Scored.{Scored}
 use Rattle.rules.specs.Chip.{shape}
 use Rattle.rules.specs.Edit.{names_place}
 use Rattle.rules.specs.Bytes.{took, refuse, design_bytes, design_at}
@@ -66,7 +62,7 @@ abbrev pub no_sizes : Sizes
 no_sizes = record { width = 0; height = 0; modules = 0; work = 0; rows = 0 }
 
 abbrev pub AskedSizes : List ℕ → Sizes → Answer → Type 0
-AskedSizes bytes sizes reply = Asked bytes reply (sizes ≡ no_sizes) (λ d. (reply ≡ answer Done) × (sizes ≡ sizes_of d))
+AskedSizes bytes sizes reply = Asked bytes reply (sizes ≡ no_sizes) (λ d. (reply ≡ answer (Ok tt)) × (sizes ≡ sizes_of d))
 
 -- write: the design's bytes again, in `out`
 abbrev pub AskedWrite : List ℕ → Lent → Answer → Type 0
@@ -108,9 +104,9 @@ AskedScore bytes rows c a =
 -- edit: the bytes of the design that is handed back go to `out`, and their count is the value. That it can hold the longest design is
 -- asked where work's length is, after 11.
 pub record PutsBack (h : Handed) (out : Lent) (reply : Answer) : Type 0 where
-  pub done : h.reply ≡ Done → let bytes = design_bytes h.design in
+  pub done : h.reply ≡ (Ok tt) → let bytes = design_bytes h.design in
       (reply ≡ plainly 0 (length bytes)) × (out.left ≡ bytes ++ drop (length bytes) out.came)
-  pub refused : (e : Refusal) → h.reply ≡ Refused e → (reply ≡ refusal e) × Stands out
+  pub refused : (e : Refusal) → h.reply ≡ Err e → (reply ≡ refusal e) × Stands out
 
 pub record EditsInto (d : Design) (e : Edit) (work out : Lent) (reply : Answer) : Type 0 where
   pub unnamed : length out.came < design_size → (So (names_place d e) → ⊥)

@@ -14,7 +14,7 @@ ghost use Rattle.cellweaver_c.specs.Asked.{AskedCheck, AskedScore, AskedEdit, Ed
 use cellweaver::{check, edit, list, place, plan, read, work_needed, write};
 use costs::score_slices;
 use replies::number_of;
-use rules::{Design, Edit, Need, Planned, Refusal, Reply, Scored, Written};
+use rules::{Design, Edit, Need, Refusal};
 use writing::design_size;
 
 // A refusal's number, and its value.
@@ -27,10 +27,10 @@ fn say_refused(e: Refusal, value: &mut usize) -> usize
 }
 
 // A reply's number, and its value.
-fn say(reply: Reply, value: &mut usize) -> usize
+fn say(reply: Result<(), Refusal>, value: &mut usize) -> usize
     ensures { said result value ≡ answer reply }
 {
-    if let Reply::Refused(e) = reply {
+    if let Err(e) = reply {
         return say_refused(e, value);
     }
     *value = 0;
@@ -38,30 +38,30 @@ fn say(reply: Reply, value: &mut usize) -> usize
 }
 
 // The number of what write answers, and the count of bytes.
-fn say_written(written: Written, value: &mut usize) -> usize
+fn say_written(written: Result<usize, Refusal>, value: &mut usize) -> usize
     ensures { said result value ≡ written_answer written }
 {
     match written {
-        Written::Bytes(n) => {
+        Ok(n) => {
             *value = n;
             0
         }
-        Written::Refused(e) => say_refused(e, value),
+        Err(e) => say_refused(e, value),
     }
 }
 
 // The number of what plan and place answer, the box and the value.
-fn say_planned(planned: Planned, width: &mut usize, height: &mut usize, value: &mut usize) -> usize
+fn say_planned(planned: Result<Shape, Refusal>, width: &mut usize, height: &mut usize, value: &mut usize) -> usize
     ensures { boxed result value width height ≡ planned_answer planned }
 {
     match planned {
-        Planned::Box(s) => {
+        Ok(s) => {
             *width = s.w.0;
             *height = s.h.0;
             *value = 0;
             0
         }
-        Planned::Refused(e) => {
+        Err(e) => {
             *width = 0;
             *height = 0;
             say_refused(e, value)
@@ -70,17 +70,17 @@ fn say_planned(planned: Planned, width: &mut usize, height: &mut usize, value: &
 }
 
 // The number of what score answers, both values and the value.
-fn say_scored(scored: Scored, total: &mut f64, last: &mut f64, value: &mut usize) -> usize
+fn say_scored(scored: Result<Score, Refusal>, total: &mut f64, last: &mut f64, value: &mut usize) -> usize
     ensures { marked result value total last ≡ scored_answer scored }
 {
     match scored {
-        Scored::Values(s) => {
+        Ok(s) => {
             *total = s.total;
             *last = s.last;
             *value = 0;
             0
         }
-        Scored::Refused(e) => {
+        Err(e) => {
             *total = 0.0;
             *last = 0.0;
             say_refused(e, value)
@@ -108,7 +108,7 @@ fn edit_into(
     }
     let handed = edit(design, change, work);
     let reply = handed.reply;
-    if let Reply::Refused(e) = reply {
+    if let Err(e) = reply {
         return say_refused(e, value);
     }
     let next = handed.design;
@@ -127,7 +127,7 @@ fn edit_bytes(
 {
     let handed = read(bytes);
     let reply = handed.reply;
-    if let Reply::Refused(e) = reply {
+    if let Err(e) = reply {
         return say_refused(e, value);
     }
     edit_into(handed.design, change, work, out, value)
@@ -177,7 +177,7 @@ pub extern "C" fn cellweaver_sizes(
 {
     let handed = read(bytes);
     let reply = handed.reply;
-    if let Reply::Refused(e) = reply {
+    if let Err(e) = reply {
         *width = 0;
         *height = 0;
         *modules = 0;
@@ -197,7 +197,7 @@ pub extern "C" fn cellweaver_write(bytes: &[u8], out: &mut [u8], value: &mut usi
 {
     let handed = read(bytes);
     let reply = handed.reply;
-    if let Reply::Refused(e) = reply {
+    if let Err(e) = reply {
         return say_refused(e, value);
     }
     say_written(write(handed.design, out), value)
@@ -210,7 +210,7 @@ pub extern "C" fn cellweaver_list(bytes: &[u8], work: &mut [u8], value: &mut usi
 {
     let handed = read(bytes);
     let reply = handed.reply;
-    if let Reply::Refused(e) = reply {
+    if let Err(e) = reply {
         return say_refused(e, value);
     }
     say(list(handed.design, work), value)
@@ -230,8 +230,8 @@ pub extern "C" fn cellweaver_plan(
 {
     let handed = read(bytes);
     let reply = handed.reply;
-    if let Reply::Refused(e) = reply {
-        return say_planned(Planned::Refused(e), width, height, value);
+    if let Err(e) = reply {
+        return say_planned(Err(e), width, height, value);
     }
     say_planned(plan(handed.design, work, rows), width, height, value)
 }
@@ -250,8 +250,8 @@ pub extern "C" fn cellweaver_place(
 {
     let handed = read(bytes);
     let reply = handed.reply;
-    if let Reply::Refused(e) = reply {
-        return say_planned(Planned::Refused(e), width, height, value);
+    if let Err(e) = reply {
+        return say_planned(Err(e), width, height, value);
     }
     say_planned(place(handed.design, work, rows), width, height, value)
 }
@@ -263,7 +263,7 @@ pub extern "C" fn cellweaver_check(bytes: &[u8], rows: &[u8], value: &mut usize)
 {
     let handed = read(bytes);
     let reply = handed.reply;
-    if let Reply::Refused(e) = reply {
+    if let Err(e) = reply {
         return say_refused(e, value);
     }
     say(check(handed.design, rows), value)
@@ -285,8 +285,8 @@ pub extern "C" fn cellweaver_score(
 {
     let handed = read(bytes);
     let reply = handed.reply;
-    if let Reply::Refused(e) = reply {
-        return say_scored(Scored::Refused(e), total, last, value);
+    if let Err(e) = reply {
+        return say_scored(Err(e), total, last, value);
     }
     let scored = score_slices(handed.design, rows, kinds, weights, nets);
     say_scored(scored, total, last, value)

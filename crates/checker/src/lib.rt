@@ -11,9 +11,7 @@ ghost use Rattle.checker.specs.Cuts.{ends_before, at_start, after_module, after_
 use extents::{Extent, extent_of, together};
 use holding::suits;
 use rows::rectangle_at;
-use rules::{
-    Columns, Corner, Design, Direction, MOST_TOKENS, Rectangle, Refusal, Reply, Rows, Token,
-};
+use rules::{Columns, Corner, Design, Direction, MOST_TOKENS, Rectangle, Refusal, Rows, Token};
 use tokens::token_of;
 
 // A pass over the tokens: the extents of the things standing, how many there are, and whether the last cut was kept.
@@ -42,18 +40,18 @@ fn is_on_chip(width: Columns, height: Rows, r: Rectangle) -> bool
 }
 
 // The reply to module k alone: off the chip before short of its need.
-fn judge_module(d: Design, rows: &[u8], k: usize) -> Reply
+fn judge_module(d: Design, rows: &[u8], k: usize) -> Result<(), Refusal>
     requires { LawfulDesign d × (k < d.modules) × (4 * d.modules ≤ length rows.now) }
     ensures { result ≡ judged_module d (from_rows rows.now) k }
 {
     let r = rectangle_at(rows, k);
     if !is_on_chip(d.chip.width, d.chip.height, r) {
-        return Reply::Refused(Refusal::OffTheChip(k));
+        return Err(Refusal::OffTheChip(k));
     }
     if !suits(d, k, r) {
-        return Reply::Refused(Refusal::ShortOfNeed(k));
+        return Err(Refusal::ShortOfNeed(k));
     }
-    Reply::Done
+    Ok(())
 }
 
 // The left child ends at or before the place where the right child begins.
@@ -130,7 +128,7 @@ fn at_start() -> Pass
 }
 
 // The reply to the cuts, in token order.
-fn judge_cuts(d: Design, rows: &[u8]) -> Reply
+fn judge_cuts(d: Design, rows: &[u8]) -> Result<(), Refusal>
     requires { LawfulDesign d × (4 * d.modules ≤ length rows.now) }
     ensures { result ≡ judged_cuts d (from_rows rows.now) }
 {
@@ -139,21 +137,21 @@ fn judge_cuts(d: Design, rows: &[u8]) -> Reply
     for t in 0..nodes {
         pass = after_token(pass, token_of(d.tokens[t]), rows);
         if !pass.kept {
-            return Reply::Refused(Refusal::CutNotKept(t));
+            return Err(Refusal::CutNotKept(t));
         }
     }
-    Reply::Done
+    Ok(())
 }
 
 // The reply to a floorplan in rows, for a lawful design and rows enough: modules in order, then cuts in token order.
-pub fn judge_rows(d: Design, rows: &[u8]) -> Reply
+pub fn judge_rows(d: Design, rows: &[u8]) -> Result<(), Refusal>
     requires { LawfulDesign d × (4 * d.modules ≤ length rows.now) }
     ensures { result ≡ judged_rows d (from_rows rows.now) }
 {
     let modules = d.modules;
     for k in 0..modules {
         let reply = judge_module(d, rows, k);
-        let Reply::Done = reply else {
+        let Ok(()) = reply else {
             return reply;
         };
     }

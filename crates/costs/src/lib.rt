@@ -11,7 +11,7 @@ ghost use Rattle.costs.specs.Slices.{cost_in};
 
 use cellweaver::score;
 use nets::nets_in;
-use rules::{Design, Scored};
+use rules::{Design};
 use terms::{term_count, terms_in};
 
 // The score of a floorplan in rows, by terms and nets in slices.
@@ -21,7 +21,7 @@ pub fn score_slices(
     kinds: &[u8],
     weights: &[f64],
     nets: &[u8],
-) -> Scored
+) -> Result<Score, Refusal>
     ensures { Scores design (given rows) (cost_in (given kinds) (given weights) (given nets)) result }
 {
     let terms = terms_in(kinds, weights);

@@ -12,7 +12,7 @@ use input::{ROWS_SIZE, header_in, plan_in, rows_in};
 use pen::LINE_SIZE;
 use refusing::{refuse, refuse_by, unreadable};
 use rendering::render;
-use rules::{Columns, Design, MOST_COLUMNS, MOST_ROWS, Reply, Rows, Shape};
+use rules::{Columns, Design, MOST_COLUMNS, MOST_ROWS, Rows, Shape};
 use sketching::sketch;
 use std::io::Stdout;
 use taking::{say_unread, take_all};
@@ -54,7 +54,7 @@ fn draw_passed(
     size: Shape,
 ) -> bool {
     let reply = check(design, rows);
-    if let Reply::Refused(e) = reply {
+    if let Err(e) = reply {
         return refuse_by(out, line, b"the checker", e);
     }
     draw_rows(out, line, svg, design, rows, size)
@@ -85,7 +85,7 @@ fn draw_plan(
     let handed = read(bytes);
     let reply = handed.reply;
     let design = handed.design;
-    if let Reply::Refused(e) = reply {
+    if let Err(e) = reply {
         return refuse_by(out, line, b"read", e);
     }
     let mut rows = [0u8; ROWS_SIZE];

@@ -1,5 +1,6 @@
 -- The stack decides as 01's rule does. A cut looks only at how many things stand, and a module only at whether it stands already; the
 -- stack keeps both, so by cases on the token it refuses where the rule refuses, and otherwise mirrors what then stands. Assumes nothing.
+use Rattle.std.specs.Prelude.{Ok, Err}
 use mathlib.Core.Path.{◌≡◌, refl, sym, ◌∙◌}
 use mathlib.Core.Bool.{Bool, true, false, not, ◌&&◌, ◌||◌, true≢false}
 use mathlib.Core.List.{List, [], ◌∷◌}
@@ -15,7 +16,6 @@ use Rattle.rules.specs.declared.Direction.{Direction}
 use Rattle.rules.specs.declared.Token.{Token}
 use Rattle.rules.specs.declared.Token.TheVariants.{Cut, Module, Beyond}
 use Rattle.rules.specs.declared.Refusal.TheVariants.{BadToken, NotOneThing}
-use Rattle.rules.specs.declared.Reply.TheVariants.{Done, Refused}
 use Rattle.rules.specs.Tree.{Tree, leaf, has, Standing, refused, things, stands, joined, added, after, standing}
 use Rattle.rules.specs.Design.{most_modules, tree_test}
 use Rattle.rules.proofs.Standing.{joined_stands}
@@ -151,20 +151,20 @@ module _ (m : ℕ) (token : ℕ → Token) where
           most = omega (arith, S.most);
         })
 
-    pub stands_no_more : p.ok ≡ false → (n : ℕ) → i < n → tree_test (standing m token n) ≡ Refused (BadToken 0)
+    pub stands_no_more : p.ok ≡ false → (n : ℕ) → i < n → tree_test (standing m token n) ≡ Err (BadToken 0)
     unfolding standing
     stands_no_more o n l =
         rw (stays_refused (suc i) n l (rw (standing, S.stand) (token_refused m i (token i) h S.mirrors (rw e at o))))
 
   -- with the tokens used up, the count tells whether one thing stands
   module _ {n : ℕ} {s : Stack} (S : Stands m token n s) where
-    pub stands_one : s.count ≡ 1 → tree_test (standing m token n) ≡ Done
+    pub stands_one : s.count ≡ 1 → tree_test (standing m token n) ≡ (Ok tt)
     stands_one e = rw (S.stand, (one_thing S.mirrors e).1)
 
-    pub stands_other : (s.count ≡ 1 → ⊥) → tree_test (standing m token n) ≡ Refused (NotOneThing 0)
+    pub stands_other : (s.count ≡ 1 → ⊥) → tree_test (standing m token n) ≡ Err (NotOneThing 0)
     stands_other e = rw S.stand (go S.trees S.mirrors)
       where
-        go : (ts : List Tree) → Mirrors s ts → tree_test (things ts) ≡ Refused (NotOneThing 0)
+        go : (ts : List Tree) → Mirrors s ts → tree_test (things ts) ≡ Err (NotOneThing 0)
         go [] M = refl
         go (t ∷ []) M = absurd (e M.count)
         go (t ∷ (u ∷ ts)) M = refl

@@ -8,10 +8,7 @@ ghost use Rattle.rules.specs.Design.{most_tokens, most_columns, last_kind, most_
 ghost use Rattle.lawful.specs.Tested.{Tested};
 ghost use Rattle.lawful.specs.Stack.{empty_stack, after_cut, after_module, after_token};
 
-use rules::{
-    Chip, Design, LAST_KIND, MOST_COLUMNS, MOST_MODULES, MOST_NUMBER, MOST_ROWS, Need, Refusal,
-    Reply, Token,
-};
+use rules::{Chip, Design, LAST_KIND, MOST_COLUMNS, MOST_MODULES, MOST_NUMBER, MOST_ROWS, Need, Refusal, Token};
 use tokens::token_of;
 
 // Of the things that the tokens read so far leave standing: the modules in them, and how many things they are.
@@ -174,7 +171,7 @@ pub fn after_token(m: usize, token: Token, stack: Stack) -> Step
 }
 
 // The tree rules over the design's tokens: 5 at the first that is refused, 6 if then not exactly one thing stands.
-fn tree_test(d: Design) -> Reply
+fn tree_test(d: Design) -> Result<(), Refusal>
     requires { (1 ≤ d.modules) × (d.modules ≤ most_modules) }
     ensures { result ≡ tree_test (standing_of d (nodes d)) }
 {
@@ -183,22 +180,22 @@ fn tree_test(d: Design) -> Reply
     for t in 0..2 * m - 1 {
         let step = after_token(m, token_of(d.tokens[t]), stack);
         if !step.ok {
-            return Reply::Refused(Refusal::BadToken(0));
+            return Err(Refusal::BadToken(0));
         }
         stack = step.stack;
     }
     if stack.count == 1 {
-        return Reply::Done;
+        return Ok(());
     }
-    Reply::Refused(Refusal::NotOneThing(0))
+    Err(Refusal::NotOneThing(0))
 }
 
 // The tests that every service runs first: 4 for the limits, then 5 or 6 for the tree, each at position 0.
-pub fn value_test(d: Design) -> Reply
+pub fn value_test(d: Design) -> Result<(), Refusal>
     ensures { Tested d result }
 {
     if !within_limits(d) {
-        return Reply::Refused(Refusal::BreaksLimits(0));
+        return Err(Refusal::BreaksLimits(0));
     }
     tree_test(d)
 }

@@ -1,17 +1,23 @@
--- What a caller learns of the rules from the code's answer: a number was taken, or a refusal ended the reading. The
+-- What a caller learns of the rules from the code's answer: something was taken, or a refusal ended the reading. The
 -- answers' constructors tell which. Assumes nothing.
+use Rattle.std.specs.Prelude.{Result, Ok, Err}
 use mathlib.Core.Path.{◌≡◌}
-use Prim.Native.Nat.{ℕ}
 use Rattle.rules.specs.declared.Refusal.{Refusal}
 use Rattle.rules.specs.Bytes.{Took, took, refuse}
-use Rattle.numbers.specs.declared.NumberReply.{NumberReply}
-use Rattle.numbers.specs.declared.NumberReply.TheVariants.{Number, Refused}
+use Rattle.numbers.specs.declared.Taken.{Taken}
 use Rattle.numbers.specs.Replies.{reply_of}
 
-pub was_taken : {r : NumberReply} (t : Took ℕ) {value next : ℕ} → r ≡ reply_of t → r ≡ Number value next → t ≡ took value next
-was_taken (took v n) p q = cc
-was_taken (refuse e) p q = cc
+module _ {A : Type 0} {r : Result (Taken A) Refusal} (t : Took A) (e : r ≡ reply_of t) where
+  pub was_taken : {n : Taken A} → r ≡ Ok n → t ≡ took n.value n.next
+  was_taken {n} q = go t e
+    where
+      go : (t : Took A) → r ≡ reply_of t → t ≡ took n.value n.next
+      go (took v i) p = cc
+      go (refuse e) p = cc
 
-pub was_refused : {r : NumberReply} (t : Took ℕ) {e : Refusal} → r ≡ reply_of t → r ≡ Refused e → t ≡ refuse e
-was_refused (took v n) p q = cc
-was_refused (refuse e) p q = cc
+  pub was_refused : {e : Refusal} → r ≡ Err e → t ≡ refuse e
+  was_refused {e = x} q = go t e
+    where
+      go : (t : Took A) → r ≡ reply_of t → t ≡ refuse x
+      go (took v i) p = cc
+      go (refuse e) p = cc

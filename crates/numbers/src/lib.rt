@@ -9,12 +9,15 @@ ghost use Rattle.numbers.specs.Replies.{reply_of};
 
 use rules::{MOST_NUMBER, Refusal};
 
-// The answer to taking a number: its value and the position after it, or the refusal, kind and position together.
+// What was taken from bytes, and the position after it.
 #[derive(Clone, Copy)]
-pub enum NumberReply {
-    Number { value: usize, next: usize },
-    Refused(Refusal),
+pub struct Taken<T> {
+    pub value: T,
+    pub next: usize,
 }
+
+// The answer to taking a number: its value and the position after it, or the refusal, kind and position together.
+pub type NumberReply = Result<Taken<usize>, Refusal>;
 
 // The third and last byte of the number that starts at `start`, above the value of the first two.
 #[tactic(auto, unfolding(rules::specs::Bytes::third_byte))]
@@ -24,19 +27,19 @@ fn third_byte(s: &[u8], start: usize, low: usize) -> NumberReply
 {
     let last = start + 2;
     if s.len() <= last {
-        return NumberReply::Refused(Refusal::Unfinished(start));
+        return Err(Refusal::Unfinished(start));
     }
     let third = s[last] as usize;
     if 0 < third {
         let value = low + 16384 * third;
         if value <= MOST_NUMBER {
-            return NumberReply::Number {
+            return Ok(Taken {
                 value,
                 next: start + 3,
-            };
+            });
         }
     }
-    NumberReply::Refused(Refusal::Malformed(start))
+    Err(Refusal::Malformed(start))
 }
 
 // The second byte of the number that starts at `start`, and the third if it goes on, above the value of the first.
@@ -46,19 +49,19 @@ fn second_byte(s: &[u8], start: usize, low: usize) -> NumberReply
 {
     let at = start + 1;
     if s.len() <= at {
-        return NumberReply::Refused(Refusal::Unfinished(start));
+        return Err(Refusal::Unfinished(start));
     }
     let second = s[at] as usize;
     if 128 <= second {
         return third_byte(s, start, low + 128 * (second - 128));
     }
     if second == 0 {
-        return NumberReply::Refused(Refusal::Malformed(start));
+        return Err(Refusal::Malformed(start));
     }
-    NumberReply::Number {
+    Ok(Taken {
         value: low + 128 * second,
         next: start + 2,
-    }
+    })
 }
 
 // The number at `at`: its first byte, and the others if it goes on.
@@ -66,16 +69,16 @@ fn number_at(s: &[u8], at: usize) -> NumberReply
     ensures { result ≡ reply_of (number_at s.now at) }
 {
     if s.len() <= at {
-        return NumberReply::Refused(Refusal::Unfinished(at));
+        return Err(Refusal::Unfinished(at));
     }
     let first = s[at] as usize;
     if 128 <= first {
         return second_byte(s, at, first - 128);
     }
-    NumberReply::Number {
+    Ok(Taken {
         value: first,
         next: at + 1,
-    }
+    })
 }
 
 // The caller's bytes, and the reader's place in them.

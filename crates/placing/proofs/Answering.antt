@@ -1,5 +1,6 @@
 -- The answer by its outcomes. A root slot stores no shape, or one alone is to choose; and one goes down from it exactly if the computed
 -- rectangles pass, which then are the only ones. So of the three outcomes one is the case, and its answer is given. Assumes nothing.
+use Rattle.std.specs.Prelude.{Ok, Err}
 use mathlib.Core.Path.{◌≡◌, refl, sym, ◌∙◌, ap}
 use mathlib.Core.Bool.{true, false, So}
 use mathlib.Core.List.{List, ◌++◌}
@@ -10,7 +11,6 @@ use Rattle.rules.specs.declared.Shape.{Shape}
 use Rattle.rules.specs.declared.Rectangle.{Rectangle}
 use Rattle.rules.specs.declared.Design.{Design}
 use Rattle.rules.specs.declared.Refusal.TheVariants.{Unreliable, NoPlacement}
-use Rattle.rules.specs.declared.Planned.TheVariants.{Box, Refused}
 use Rattle.rules.specs.Chip.{corner}
 use Rattle.rules.specs.Placement.{Placement}
 use Rattle.rules.specs.Choice.{rows_out}
@@ -45,7 +45,7 @@ module _ {d : Design} {work rows : List ℕ} (enough : Enough d work rows) where
     pub this_chosen : (s.w.0 ≡ 0 → ⊥) → ChosenIn d work s
     this_chosen n = chosen_this (width_of d) (root_slot d (slots_of d work)) s (rw e at q) n
 
-  pub answer_none : NoShapeIn d work → PlacedFrom d work rows (Refused NoPlacement) rows
+  pub answer_none : NoShapeIn d work → PlacedFrom d work rows (Err NoPlacement) rows
   answer_none z = record {
     none = λ _. (refl, refl);
     lost = λ o ch _. absurd (z o ch.stored);
@@ -64,7 +64,7 @@ module _ {d : Design} {work rows : List ℕ} (enough : Enough d work rows) where
         let (g, f) = goes_laid d enough.lawful (slots_of d work) s p (rw (only o x) at down) in
         let ok : So r.ok = w.ok ∙ g in (ok, λ k h. f k h ∙ sym (w.places ok k h))
 
-    pub answer_lost : r.ok ≡ false → PlacedFrom d work rows (Refused Unreliable) rows
+    pub answer_lost : r.ok ≡ false → PlacedFrom d work rows (Err Unreliable) rows
     answer_lost e = record {
       none = λ z. absurd (z s ch.stored);
       lost = λ _ _ _. (refl, refl);
@@ -76,9 +76,9 @@ module _ {d : Design} {work rows : List ℕ} (enough : Enough d work rows) where
     laid_went e = laid_goes d enough.lawful (slots_of d work) s (sym w.ok ∙ e)
 
     pub answer_done : {rows' : List ℕ} → r.ok ≡ true → rows' ≡ rows_out d.modules (place_of r.places) ++ drop (4 * d.modules) rows
-        → PlacedFrom d work rows (Box s) rows'
+        → PlacedFrom d work rows (Ok s) rows'
     answer_done e q = record {
       none = λ z. absurd (z s ch.stored);
       lost = λ o x no. absurd ((rw (only o x) at no) _ (laid_went e));
-      done = λ o p x down. (ap Box (sym (only o x)), q ∙ rw (rows_same d.modules p (place_of r.places) (went o p x down).1));
+      done = λ o p x down. (ap Ok (sym (only o x)), q ∙ rw (rows_same d.modules p (place_of r.places) (went o p x down).1));
     }

@@ -1,13 +1,12 @@
 -- One floorplan from stored lists: what each step asks for, and the answer by its outcomes.
-use Rattle.std.specs.Prelude.{◌≡◌, List, ◌++◌, ℕ, ◌≤◌, ◌<◌, ◌*◌, length, drop}
+use Rattle.std.specs.Prelude.{◌≡◌, List, ◌++◌, ℕ, ◌≤◌, ◌<◌, ◌*◌, length, drop, Ok, Err}
 use Rattle.std.proofs.Math.Bool.{So}
 use Rattle.rules.specs.declared.Corner.{Corner}
 use Rattle.rules.specs.declared.Shape.{Shape}
 use Rattle.rules.specs.declared.Rectangle.{Rectangle}
 use Rattle.rules.specs.declared.Design.{Design}
 use Rattle.rules.specs.declared.Refusal.TheVariants.{Unreliable, NoPlacement}
-use Rattle.rules.specs.declared.Planned.{Planned}
-use Rattle.rules.specs.declared.Planned.TheVariants.{Box, Refused}
+use Rattle.rules.specs.Answers.{Planned}
 use Rattle.rules.specs.Chip.{OnChip}
 use Rattle.rules.specs.Placement.{Placement}
 use Rattle.rules.specs.Slot.{Stores}
@@ -48,8 +47,8 @@ pub record RowsLent (m : ℕ) (places : List Rectangle) (rows : List ℕ) : Type
 -- the answer over lists that are all stairs, with room enough: the root's list is empty, or going down from its chosen shape fails, or
 -- it gives the floorplan
 pub record PlacedFrom (d : Design) (work rows : List ℕ) (r : Planned) (rows' : List ℕ) : Type 0 where
-  pub none : NoShapeIn d work → (r ≡ Refused NoPlacement) × (rows' ≡ rows)
+  pub none : NoShapeIn d work → (r ≡ Err NoPlacement) × (rows' ≡ rows)
   pub lost : (s : Shape) → ChosenIn d work s → ((p : Placement) → GoesDown d (slots_of d work) s p → ⊥)
-      → (r ≡ Refused Unreliable) × (rows' ≡ rows)
+      → (r ≡ Err Unreliable) × (rows' ≡ rows)
   pub done : (s : Shape) (p : Placement) → ChosenIn d work s → GoesDown d (slots_of d work) s p
-      → (r ≡ Box s) × (rows' ≡ rows_out d.modules p ++ drop (rows_of d) rows)
+      → (r ≡ Ok s) × (rows' ≡ rows_out d.modules p ++ drop (rows_of d) rows)

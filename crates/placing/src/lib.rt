@@ -15,7 +15,7 @@ ghost use Rattle.placing.specs.Place.{PlacesOn, FromStairs, WentDown, PlacedFrom
 use choosing::{Layout, best_shape, lay_out};
 use holding::suits;
 use rows::row_out;
-use rules::{Design, MOST_MODULES, Planned, Rectangle, Refusal, Shape};
+use rules::{Design, MOST_MODULES, Rectangle, Refusal, Shape};
 use slots::board_of;
 use trees::left_children;
 
@@ -64,7 +64,7 @@ fn rows_out(places: [Rectangle; MOST_MODULES], modules: usize, rows: &mut [u8])
 
 // One floorplan from the lists in work: 10 where the root's list at (0, 0) is empty, 9 where going down fails, and else the box and
 // the rows.
-pub fn place_lists(design: Design, work: &[u8], rows: &mut [u8]) -> Planned
+pub fn place_lists(design: Design, work: &[u8], rows: &mut [u8]) -> Result<Shape, Refusal>
     requires { Enough design work.now rows.old × AllStairs design (slots_of design work.now) }
     ensures { PlacedFrom design work.now rows.old result rows.new }
 {
@@ -72,13 +72,13 @@ pub fn place_lists(design: Design, work: &[u8], rows: &mut [u8]) -> Planned
     let nodes = 2 * modules - 1;
     let shape = best_shape(work, board_of(design), nodes - 1);
     if shape.w.0 == 0 {
-        return Planned::Refused(Refusal::NoPlacement);
+        return Err(Refusal::NoPlacement);
     }
     let layout = go_down(design, work, shape);
     if !layout.ok {
-        return Planned::Refused(Refusal::Unreliable);
+        return Err(Refusal::Unreliable);
     }
     let places = layout.places;
     rows_out(places, modules, rows);
-    Planned::Box(shape)
+    Ok(shape)
 }

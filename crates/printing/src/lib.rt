@@ -107,17 +107,17 @@ fn put_plan(out: &mut [u8], numbers: &[usize]) -> usize
 }
 
 // Puts the text of an answer, with the rows of its modules, and gives the text's length.
-pub fn plan_text(answer: Planned, modules: usize, rows: &[u8], out: &mut [u8]) -> usize
+pub fn plan_text(answer: Result<Shape, Refusal>, modules: usize, rows: &[u8], out: &mut [u8]) -> usize
     requires { TextLent modules rows.now out.old }
     ensures { Put out.old 0 (plan_text answer modules rows.now) result out.new }
 {
     match answer {
-        Planned::Box(s) => {
+        Ok(s) => {
             let numbers = [0, s.w.0, s.h.0];
             let next = put_plan(out, &numbers);
             put_modules(out, next, modules, rows)
         }
-        Planned::Refused(e) => {
+        Err(e) => {
             let said = number_of(e);
             let numbers = [said.0, said.1];
             put_plan(out, &numbers)

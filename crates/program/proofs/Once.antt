@@ -1,14 +1,13 @@
 -- "Prove that two replies allowed by it are equal", of the plan program: the bytes are one design or one refusal, plan has one answer
 -- for a design, and an answer has one text. Assumes nothing.
+use Rattle.std.specs.Prelude.{Ok, Err}
 use mathlib.Core.Path.{◌≡◌, refl, sym, ◌∙◌, ap}
 use mathlib.Core.List.{List}
 use Prim.Native.Nat.{ℕ, ◌+◌}
 use lib.ListN.{length}
 use lib.Seq.{sets}
-use Rattle.rules.specs.declared.Reply.{Reply}
-use Rattle.rules.specs.declared.Reply.TheVariants.{Done, Refused}
+use Rattle.rules.specs.Answers.{Reply, Planned}
 use Rattle.rules.specs.declared.Handed.{Handed}
-use Rattle.rules.specs.declared.Planned.{Planned}
 use Rattle.rules.specs.Program.{plan_text}
 use Rattle.lending.specs.Lent.{lending}
 use Rattle.promises.proofs.Unique.{reads_once, plans_once}
@@ -20,8 +19,8 @@ pub answers_once : (h : Handed) (work rows : List ℕ) {r r' : Planned} {work' w
 answers_once h work rows {r} {r'} {work'} {work''} {rows'} {rows''} x y = go h.reply refl
   where
     go : (t : Reply) → h.reply ≡ t → (r ≡ r') × (work' ≡ work'') × (rows' ≡ rows'')
-    go Done q = plans_once h.design work rows work' work'' rows' rows'' r r' (x.done q) (y.done q)
-    go (Refused e) q =
+    go (Ok tt) q = plans_once h.design work rows work' work'' rows' rows'' r r' (x.done q) (y.done q)
+    go (Err e) q =
         let (a, b, c) = x.refused e q in let (i, j, k) = y.refused e q in (a ∙ sym i, b ∙ sym j, c ∙ sym k)
 
 -- the text's length, the work, the rows and the lent bytes with the text

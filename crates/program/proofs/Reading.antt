@@ -1,14 +1,13 @@
 -- What was read: it has no more modules than there can be, and it is refused or done. Assumes nothing.
+use Rattle.std.specs.Prelude.{Ok, Err}
 use mathlib.Core.Path.{◌≡◌, refl, ap}
 use mathlib.Core.List.{List}
 use Prim.Native.Nat.{ℕ, ◌≤◌}
 use native.Mathlib.Omega.{arith}
 use Rattle.rules.specs.declared.Design.{Design}
 use Rattle.rules.specs.declared.Refusal.{Refusal}
-use Rattle.rules.specs.declared.Reply.TheVariants as reply
 use Rattle.rules.specs.declared.Handed.{Handed}
-use Rattle.rules.specs.declared.Planned.{Planned}
-use Rattle.rules.specs.declared.Planned.TheVariants as planned
+use Rattle.rules.specs.Answers.{Planned}
 use Rattle.rules.specs.Design.{most_modules}
 use Rattle.rules.specs.Bytes.{Took, took, refuse, design_at}
 use Rattle.rules.specs.Service.{Reads, Plans, handed, zeros}
@@ -27,13 +26,13 @@ few_read s {h} e = rw e (go (design_at s) refl)
     go (took d n) q = (limits d (read_lawful s d n q).0).modules
     go (refuse e) q = omega arith
 
-pub answers_refused : (h : Handed) {e : Refusal} {work rows : List ℕ} → h.reply ≡ reply.Refused e
-    → Answers h (lending work work) (lending rows rows) (planned.Refused e)
+pub answers_refused : (h : Handed) {e : Refusal} {work rows : List ℕ} → h.reply ≡ Err e
+    → Answers h (lending work work) (lending rows rows) (Err e)
 answers_refused h {e} p = record {
-  refused = λ f q. (ap planned.Refused (one_refusal p q), refl, refl);
+  refused = λ f q. (ap Err (one_refusal p q), refl, refl);
   done = λ q. not_both p q;
 }
 
-pub answers_planned : (h : Handed) {r : Planned} {work rows work' rows' : List ℕ} → h.reply ≡ reply.Done
+pub answers_planned : (h : Handed) {r : Planned} {work rows work' rows' : List ℕ} → h.reply ≡ (Ok tt)
     → Plans h.design work rows r work' rows' → Answers h (lending work work') (lending rows rows') r
 answers_planned h q z = record { refused = λ e p. not_both p q; done = λ _. z }

@@ -1,10 +1,8 @@
 -- 01, "The plan program": the answer to the bytes of a design, and its text.
-use Rattle.std.specs.Prelude.{◌≡◌, List, ℕ, ◌*◌, length, take}
+use Rattle.std.specs.Prelude.{◌≡◌, List, ℕ, ◌*◌, length, take, Ok, Err}
 use Rattle.rules.specs.declared.Refusal.{Refusal}
-use Rattle.rules.specs.declared.Reply.TheVariants as reply
 use Rattle.rules.specs.declared.Handed.{Handed}
-use Rattle.rules.specs.declared.Planned.{Planned}
-use Rattle.rules.specs.declared.Planned.TheVariants as planned
+use Rattle.rules.specs.Answers.{Planned}
 use Rattle.rules.specs.Service.{Reads, Plans}
 use Rattle.rules.specs.Design.{most_modules}
 use Rattle.rules.specs.Program.{program_input, program_work, zeroed, plan_text}
@@ -13,8 +11,8 @@ use Rattle.putting.specs.Put.{Put}
 
 -- the answer to what was read: the refusal of reading, or what plan answers for the design
 pub record Answers (h : Handed) (work rows : Lent) (r : Planned) : Type 0 where
-  pub refused : (e : Refusal) → h.reply ≡ reply.Refused e → (r ≡ planned.Refused e) × Stands work × Stands rows
-  pub done : h.reply ≡ reply.Done → Plans h.design work.came rows.came r work.left rows.left
+  pub refused : (e : Refusal) → h.reply ≡ Err e → (r ≡ Err e) × Stands work × Stands rows
+  pub done : h.reply ≡ (Ok tt) → Plans h.design work.came rows.came r work.left rows.left
 
 -- the text of that answer to some bytes is put at the start of the lent ones, and `count` is its length
 pub record Runs (bytes : List ℕ) (work rows out : Lent) (count : ℕ) : Type 0 where

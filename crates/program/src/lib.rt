@@ -10,7 +10,7 @@ ghost use Rattle.program.specs.Run.{Answers, Runs, PlansInput};
 
 use cellweaver::{plan, read};
 use printing::{TEXT_SIZE, plan_text};
-use rules::{Handed, MOST_MODULES, Planned, Reply};
+use rules::{Handed, MOST_MODULES};
 
 // The bytes of input that the program reads at most, as many as decide every reading, and its work.
 pub const MOST_INPUT: usize = 4096;
@@ -18,12 +18,12 @@ pub const MOST_INPUT: usize = 4096;
 pub const WORK: usize = 65536;
 
 // Plans what was read; a refusal of reading is the answer.
-fn plan_read(handed: Handed, work: &mut [u8], rows: &mut [u8]) -> Planned
+fn plan_read(handed: Handed, work: &mut [u8], rows: &mut [u8]) -> Result<Shape, Refusal>
     ensures { Answers handed (lent work) (lent rows) result }
 {
     let reply = handed.reply;
-    if let Reply::Refused(e) = reply {
-        return Planned::Refused(e);
+    if let Err(e) = reply {
+        return Err(e);
     }
     let design = handed.design;
     plan(design, work, rows)

@@ -1,5 +1,6 @@
 -- Demand 1: each service's table of numbered replies, and what a refusal leaves. Whichever outcome of its contract comes about, its row is read
 -- off. Assumes nothing.
+use Rattle.std.specs.Prelude.{Ok}
 use mathlib.Core.Path.{◌≡◌, refl, ◌∙◌, ap}
 use mathlib.Core.Logic.{◌⊎◌, ⊎_elim}
 use mathlib.Core.Bool.{So}
@@ -10,12 +11,8 @@ use lib.ListN.{length}
 use Rattle.rules.specs.declared.Design.{Design}
 use Rattle.rules.specs.declared.Edit.{Edit}
 use Rattle.rules.specs.declared.Refusal.{Refusal}
-use Rattle.rules.specs.declared.Reply.{Reply}
-use Rattle.rules.specs.declared.Reply.TheVariants.{Done}
+use Rattle.rules.specs.Answers.{Reply, Written, Planned, Scored}
 use Rattle.rules.specs.declared.Handed.{Handed}
-use Rattle.rules.specs.declared.Written.{Written}
-use Rattle.rules.specs.declared.Planned.{Planned}
-use Rattle.rules.specs.declared.Scored.{Scored}
 use Rattle.rules.specs.Design.{slots_of, LawfulDesign}
 use Rattle.rules.specs.Edit.{names_place, changed}
 use Rattle.rules.specs.Bytes.{Took, took, refuse, design_bytes, design_at}
@@ -164,7 +161,7 @@ check_kept : (d : Design) (rows : List ℕ) (r : Reply) → Checks d rows r → 
 check_kept d rows r x = rw x.judged (verdict_numbered d rows)
 
 -- what passes is a lawful placement of a lawful design
-pub passed : (d : Design) (rows : List ℕ) → verdict d rows ≡ Done → Passed d rows
+pub passed : (d : Design) (rows : List ℕ) → verdict d rows ≡ (Ok tt) → Passed d rows
 passed d rows v =
     let l = passed_is_lawful d rows v in let (h, p) = (passes_iff d l rows).0 v in record { lawful = l; places = h; placement = p }
 

@@ -1,4 +1,5 @@
 -- A contract is said by its outcomes, and one of them always comes about: each test of a service passes or fails. Assumes nothing.
+use Rattle.std.specs.Prelude.{Ok, Err}
 use mathlib.Core.Path.{◌≡◌, refl}
 use mathlib.Core.Logic.{◌⊎◌, inl, inr, ⊎_elim}
 use mathlib.Core.Bool.{So}
@@ -10,8 +11,7 @@ use Rattle.rules.specs.declared.Shape.{Shape}
 use Rattle.rules.specs.declared.Design.{Design}
 use Rattle.rules.specs.declared.Edit.{Edit}
 use Rattle.rules.specs.declared.Refusal.{Refusal}
-use Rattle.rules.specs.declared.Reply.{Reply}
-use Rattle.rules.specs.declared.Reply.TheVariants.{Done, Refused}
+use Rattle.rules.specs.Answers.{Reply}
 use Rattle.rules.specs.Placement.{Placement}
 use Rattle.rules.specs.Slot.{Empty}
 use Rattle.rules.specs.Choice.{Chosen}
@@ -28,7 +28,7 @@ use Rattle.rules.proofs.Stairs.{stairs_or_not}
 
 -- write, list, plan, place and check: the design's own tests, then the room lent
 pub data Lent (d : Design) (Short Given : Type 0) : Type 0 where
-  unlawful : (e : Refusal) → value_test d ≡ Refused e → Lent d Short Given
+  unlawful : (e : Refusal) → value_test d ≡ Err e → Lent d Short Given
   short : LawfulDesign d → Short → Lent d Short Given
   enough : LawfulDesign d → Given → Lent d Short Given
 
@@ -36,8 +36,8 @@ tests_first : (d : Design) {Short Given : Type 0} → (LawfulDesign d → Short 
 tests_first d {Short} {Given} f = go (value_test d) refl
   where
     go : (r : Reply) → value_test d ≡ r → Lent d Short Given
-    go Done q = ⊎_elim (short q) (enough q) (f q)
-    go (Refused e) q = unlawful e q
+    go (Ok tt) q = ⊎_elim (short q) (enough q) (f q)
+    go (Err e) q = unlawful e q
 
 -- one buffer of n bytes
 pub one_lent : (d : Design) (n : ℕ) (lent : List ℕ) → Lent d (length lent < n) (n ≤ length lent)
@@ -69,7 +69,7 @@ placing d l slots = ⊎_elim
 
 -- edit
 pub data Editing (d : Design) (e : Edit) (before : List ℕ) : Type 0 where
-  unlawful_design : (f : Refusal) → value_test d ≡ Refused f → Editing d e before
+  unlawful_design : (f : Refusal) → value_test d ≡ Err f → Editing d e before
   unnamed : LawfulDesign d → (So (names_place d e) → ⊥) → Editing d e before
   short_work : LawfulDesign d → So (names_place d e) → length before < work_of d → Editing d e before
   stranger : LawfulDesign d → So (names_place d e) → work_of d ≤ length before → (AllStairs d (slots_of d before) → ⊥) → Editing d e before
@@ -87,16 +87,16 @@ editing d e before = go (one_lent d (work_of d) before) (know (names_place d e))
 
 -- score: the checker's verdict, then the terms, then the nets
 pub data Scoring (d : Design) (rows : List ℕ) (c : Cost) : Type 0 where
-  faulty : (e : Refusal) → verdict d rows ≡ Refused e → Scoring d rows c
-  bad_term : verdict d rows ≡ Done → (TermsLawful c → ⊥) → Scoring d rows c
-  bad_net : verdict d rows ≡ Done → TermsLawful c → (NetsLawful d c → ⊥) → Scoring d rows c
-  scored : verdict d rows ≡ Done → TermsLawful c → NetsLawful d c → Scoring d rows c
+  faulty : (e : Refusal) → verdict d rows ≡ Err e → Scoring d rows c
+  bad_term : verdict d rows ≡ (Ok tt) → (TermsLawful c → ⊥) → Scoring d rows c
+  bad_net : verdict d rows ≡ (Ok tt) → TermsLawful c → (NetsLawful d c → ⊥) → Scoring d rows c
+  scored : verdict d rows ≡ (Ok tt) → TermsLawful c → NetsLawful d c → Scoring d rows c
 
 pub scoring : (d : Design) (rows : List ℕ) (c : Cost) → Scoring d rows c
 scoring d rows c = go (verdict d rows) refl (know (lawful_terms c.terms c.term_count)) (know (lawful_nets d.modules c.nets c.net_count))
   where
     go : (r : Reply) → verdict d rows ≡ r → TermsLawful c ⊎ (TermsLawful c → ⊥) → NetsLawful d c ⊎ (NetsLawful d c → ⊥) → Scoring d rows c
-    go (Refused e) q _ _ = faulty e q
-    go Done q (inr f) _ = bad_term q f
-    go Done q (inl t) (inr f) = bad_net q t f
-    go Done q (inl t) (inl n) = scored q t n
+    go (Err e) q _ _ = faulty e q
+    go (Ok tt) q (inr f) _ = bad_term q f
+    go (Ok tt) q (inl t) (inr f) = bad_net q t f
+    go (Ok tt) q (inl t) (inl n) = scored q t n

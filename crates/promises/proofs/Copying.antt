@@ -1,5 +1,6 @@
 -- Demand 2's round trips: accepted bytes, written again, are the same bytes; a lawful design, written and read, is the same design; and the
 -- first bytes that the plan program takes decide a reading. Assumes nothing.
+use Rattle.std.specs.Prelude.{Ok, Err}
 use mathlib.Core.Path.{◌≡◌, refl, sym, ◌∙◌, ap}
 use mathlib.Core.List.{List}
 use Prim.Native.Nat.{ℕ, ◌≤◌}
@@ -9,10 +10,8 @@ use lib.Seq.{take-append_seam}
 use Rattle.rules.specs.declared.Design.{Design}
 use Rattle.rules.specs.declared.Refusal.{Refusal}
 use Rattle.rules.specs.declared.Refusal.TheVariants.{Unfinished, Malformed, WrongForm, BreaksLimits, BadToken, NotOneThing, ExtraBytes, TooShort, Unreliable, NoPlacement, NoSuchEdit, OffTheChip, ShortOfNeed, CutNotKept, BadTerm, BadNet}
-use Rattle.rules.specs.declared.Reply.{Reply}
-use Rattle.rules.specs.declared.Reply.TheVariants.{Done, Refused}
+use Rattle.rules.specs.Answers.{Reply, Written}
 use Rattle.rules.specs.declared.Handed.{Handed}
-use Rattle.rules.specs.declared.Written.{Written}
 use Rattle.rules.specs.Design.{LawfulDesign, SameDesign}
 use Rattle.rules.specs.Bytes.{AreBytes, Took, took, refuse, design_bytes, design_at}
 use Rattle.rules.specs.Reply.{plainly, refusal, answer, written_answer}
@@ -40,9 +39,9 @@ refusal_not_0 (CutNotKept t) q = omega arith
 refusal_not_0 BadTerm q = omega arith
 refusal_not_0 BadNet q = omega arith
 
-pub is_done : (r : Reply) → (answer r).number ≡ 0 → r ≡ Done
-is_done Done q = refl
-is_done (Refused e) q = absurd (refusal_not_0 e q)
+pub is_done : (r : Reply) → (answer r).number ≡ 0 → r ≡ (Ok tt)
+is_done (Ok tt) q = refl
+is_done (Err e) q = absurd (refusal_not_0 e q)
 
 -- a reading that is done took the design that it hands back
 pub done_took : (s : List ℕ) (r : Handed) → Reads s r → (answer r.reply).number ≡ 0 → (n : ℕ) × (design_at s ≡ took r.design n)
@@ -62,7 +61,7 @@ read_then_write s before after r w b x e y h =
 
 -- what is written and read again is the design, with zeros in the places that are ignored
 pub written_then_read : (d : Design) (before after : List ℕ) (w : Written) (r : Handed) → LawfulDesign d → Writes d before w after
-    → length (design_bytes d) ≤ length before → Reads (take (written_answer w).value after) r → r ≡ record { reply = Done; design = cleared d }
+    → length (design_bytes d) ≤ length before → Reads (take (written_answer w).value after) r → r ≡ record { reply = (Ok tt); design = cleared d }
 written_then_read d before after w r l y h x =
     let (a, c) = y.done l h in
     let e : take (length (design_bytes d)) after ≡ design_bytes d = rw c (take-append_seam (design_bytes d) (drop (length (design_bytes d)) before)) in

@@ -1,6 +1,7 @@
 -- Demand 3, for runs of any length: begin with what list or plan leaves and let only edits write, each handed the design that the last one left,
 -- also by way of its bytes. By induction on the run the bytes are the design's own lists throughout, since own lists are stairs, relisting the
 -- way keeps them own, and a design that is saved and read again is the same. Assumes nothing.
+use Rattle.std.specs.Prelude.{Ok, Err}
 use mathlib.Core.Path.{◌≡◌, refl, sym, ◌∙◌, ap}
 use mathlib.Core.Logic.{◌⊎◌, inl, inr, ⊎_elim}
 use mathlib.Core.Bool.{So}
@@ -13,7 +14,6 @@ use Rattle.rules.specs.declared.Design.{Design}
 use Rattle.rules.specs.declared.Edit.{Edit}
 use Rattle.rules.specs.declared.Edit.TheVariants.{Change, Turn}
 use Rattle.rules.specs.declared.Refusal.TheVariants.{NoSuchEdit}
-use Rattle.rules.specs.declared.Reply.TheVariants.{Done, Refused}
 use Rattle.rules.specs.declared.Handed.{Handed}
 use Rattle.rules.specs.Slot.{PastKept}
 use Rattle.rules.specs.Design.{Sized, LawfulDesign, node_at, nodes, ListsOf, slots_of, OwnLists, width_of, height_of, slot_rows}
@@ -45,12 +45,12 @@ pub record Own (d : Design) (work : List ℕ) : Type 0 where
 -- one edit over own lists: granted or refused as demanded
 pub record Granted (d : Design) (e : Edit) (before : List ℕ) (r : Handed) (after : List ℕ) : Type 0 where
   pub names : So (names_place d e)
-  pub answer : r ≡ record { reply = Done; design = changed d e }
+  pub answer : r ≡ record { reply = (Ok tt); design = changed d e }
   pub lists : EditedLists d e before after
 
 pub record Unnamed (d : Design) (e : Edit) (before : List ℕ) (r : Handed) (after : List ℕ) : Type 0 where
   pub names : So (names_place d e) → ⊥
-  pub answer : r ≡ record { reply = Refused NoSuchEdit; design = d }
+  pub answer : r ≡ record { reply = Err NoSuchEdit; design = d }
   pub bytes : after ≡ before
 
 pub one_edit : (d : Design) (e : Edit) (before after : List ℕ) (r : Handed) → Own d before → Edits d e before r after

@@ -1,5 +1,6 @@
 -- The inputs on which wrong services are refuted: 01's D and its edits, what is right of them, from the bench table or computed, and how a table
 -- of numbered replies is read. Assumes nothing.
+use Rattle.std.specs.Prelude.{Ok, Err}
 use mathlib.Core.Path.{◌≡◌, refl}
 use mathlib.Core.Bool.{So}
 use mathlib.Core.List.{List, [], ◌∷◌}
@@ -10,7 +11,6 @@ use Rattle.rules.specs.declared.Design.{Design}
 use Rattle.rules.specs.declared.Edit.{Edit}
 use Rattle.rules.specs.declared.Edit.TheVariants.{Change, Turn}
 use Rattle.rules.specs.declared.Refusal.TheVariants.{OffTheChip, ShortOfNeed}
-use Rattle.rules.specs.declared.Reply.TheVariants.{Done, Refused}
 use Rattle.rules.specs.Search.{all, least, count, total}
 use Rattle.rules.specs.Chip.{corner, shape, rectangle, column, column_of, covers_block, held_between, holds}
 use Rattle.rules.specs.Tree.{refused, has, stands, joined, added, standing}
@@ -146,7 +146,7 @@ exchanged = 3 ∷ 0 ∷ 2 ∷ 3 ∷ 0 ∷ 0 ∷ 3 ∷ 3 ∷ []
 abbrev pub one_cell_shared : List ℕ
 one_cell_shared = 0 ∷ 0 ∷ 2 ∷ 3 ∷ 1 ∷ 2 ∷ 2 ∷ 3 ∷ []
 
-verdicts : (verdict D printed ≡ Done) × (verdict D over_the_side ≡ Refused (OffTheChip 1)) × (verdict D half_block ≡ Refused (ShortOfNeed 0))
+verdicts : (verdict D printed ≡ (Ok tt)) × (verdict D over_the_side ≡ Err (OffTheChip 1)) × (verdict D half_block ≡ Err (ShortOfNeed 0))
 unfolding D slot_rows padded all least count total stands has joined added standing value_test within_limits lawful_chip in_range lawful_need
     column_of covers_block held_between holds column from_rows is_on_chip is_at_most is_kept judged_cuts judged_rows verdict
 verdicts = (refl, refl, refl)

@@ -10,8 +10,7 @@ use native.Mathlib.Omega.{arith}
 use lib.ListN.{length, drop}
 use Rattle.rules.specs.declared.Shape.{Shape}
 use Rattle.rules.specs.declared.Design.{Design}
-use Rattle.rules.specs.declared.Reply.{Reply}
-use Rattle.rules.specs.declared.Planned.{Planned}
+use Rattle.rules.specs.Answers.{Reply, Planned}
 use Rattle.rules.specs.Chip.{corner, right, top}
 use Rattle.rules.specs.Tree.{has, position}
 use Rattle.rules.specs.Placement.{Placement, box}

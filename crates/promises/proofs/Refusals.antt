@@ -1,5 +1,6 @@
 -- Which refusals there are: of a design handed over as a value 4 or 5, of a reading 1, 2, 3, 4, 5 or 7. Each test has its own, and 6 is
 -- never given, since 2m-1 tokens that pass leave one thing standing. Assumes nothing.
+use Rattle.std.specs.Prelude.{Err}
 use mathlib.Core.Path.{◌≡◌, refl, sym, ◌∙◌, ap}
 use mathlib.Core.Logic.{◌⊎◌, ⊎_elim}
 use mathlib.Core.Bool.{Bool, true, false, So}
@@ -11,8 +12,7 @@ use lib.ListN.{length}
 use Rattle.rules.specs.declared.Design.{Design}
 use Rattle.rules.specs.declared.Refusal.{Refusal}
 use Rattle.rules.specs.declared.Refusal.TheVariants.{Unfinished, Malformed, WrongForm, BreaksLimits, BadToken, ExtraBytes}
-use Rattle.rules.specs.declared.Reply.{Reply}
-use Rattle.rules.specs.declared.Reply.TheVariants.{Refused}
+use Rattle.rules.specs.Answers.{Reply}
 use Rattle.rules.specs.Tree.{Tree, Standing, refused, things, token_of, after}
 use Rattle.rules.specs.Design.{most_modules, nodes, lawful_need, standing_of, within_limits, tree_test, value_test}
 use Rattle.rules.specs.Bytes.{Took, took, refuse, and_then, judged, number_at, checked_at, row_at, need_of, kept_token, tokens_at, design_at}
@@ -26,18 +26,18 @@ use Rattle.rules.proofs.Taking.{one_more, all_more, over_nothing}
 use Rattle.promises.specs.Demand1.{Tested, breaks_limits, bad_token}
 
 -- a design that its own tests refuse: 4, or else 5
-pub value_refused : (d : Design) (e : Refusal) → value_test d ≡ Refused e → {Then : Answer → Type 0} → Tested d Then (refusal e)
+pub value_refused : (d : Design) (e : Refusal) → value_test d ≡ Err e → {Then : Answer → Type 0} → Tested d Then (refusal e)
 unfolding value_test
 value_refused d e q {Then} = go (within_limits d) refl q
   where
-    tree : So (within_limits d) → (s : Standing) → standing_of d (nodes d) ≡ s → tree_test s ≡ Refused e → Tested d Then (refusal e)
+    tree : So (within_limits d) → (s : Standing) → standing_of d (nodes d) ≡ s → tree_test s ≡ Err e → Tested d Then (refusal e)
     tree t refused p q = let x : BadToken 0 ≡ e = cc in rw (← x) (bad_token t p)
     tree t (things []) p q = absurd (never_not_one_thing d 0 t (ap tree_test p))
     tree t (things (u ∷ [])) p q = let z : ◌≡◌ {A = ℕ} 0 1 = cc in absurd (omega arith)
     tree t (things (u ∷ (v ∷ ts))) p q = absurd (never_not_one_thing d 0 t (ap tree_test p))
 
     go : (b : Bool) → within_limits d ≡ b
-        → elim b as (λ _. Reply) [ true ↦ tree_test (standing_of d (nodes d)) | false ↦ Refused (BreaksLimits 0) ] ≡ Refused e → Tested d Then (refusal e)
+        → elim b as (λ _. Reply) [ true ↦ tree_test (standing_of d (nodes d)) | false ↦ Err (BreaksLimits 0) ] ≡ Err e → Tested d Then (refusal e)
     go true t q = tree t (standing_of d (nodes d)) refl q
     go false t q = let x : BreaksLimits 0 ≡ e = cc in rw (← x) (breaks_limits (λ s. absurd_so (sym t ∙ s)))
 

@@ -14,10 +14,8 @@ use Rattle.rules.specs.declared.Edit.TheVariants.{Change, Turn}
 use Rattle.rules.specs.declared.Need.{Need}
 use Rattle.rules.specs.declared.Refusal.{Refusal}
 use Rattle.rules.specs.declared.Refusal.TheVariants.{Unfinished, Malformed, WrongForm, BreaksLimits, BadToken, ExtraBytes}
-use Rattle.rules.specs.declared.Reply.{Reply}
+use Rattle.rules.specs.Answers.{Reply, Written, Planned}
 use Rattle.rules.specs.declared.Handed.{Handed}
-use Rattle.rules.specs.declared.Written.{Written}
-use Rattle.rules.specs.declared.Planned.{Planned}
 use Rattle.rules.specs.Search.{any, all, least, count, total}
 use Rattle.rules.specs.Chip.{OnChip, corner, shape, column, column_of, covers_block, held_between, holds}
 use Rattle.rules.specs.Tree.{stands, has, joined, added, standing}

@@ -13,10 +13,8 @@ use Rattle.rules.specs.declared.Direction.{Direction}
 use Rattle.rules.specs.declared.Direction.TheVariants.{Vertical, Horizontal}
 use Rattle.rules.specs.declared.Token.TheVariants.{Cut}
 use Rattle.rules.specs.declared.Edit.TheVariants.{Change, Turn}
-use Rattle.rules.specs.declared.Reply.{Reply}
+use Rattle.rules.specs.Answers.{Reply, Written, Planned}
 use Rattle.rules.specs.declared.Handed.{Handed}
-use Rattle.rules.specs.declared.Written.{Written}
-use Rattle.rules.specs.declared.Planned.{Planned}
 use Rattle.rules.specs.Search.{any, least, count, total}
 use Rattle.rules.specs.Chip.{corner, shape, rectangle, column, column_of, covers_block, held_between}
 use Rattle.rules.specs.Tree.{spans, stands, has, joined, added, standing}

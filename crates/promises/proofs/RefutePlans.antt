@@ -1,5 +1,6 @@
 -- Wrong services that demand 2 rejects, each by an input, from the demand's statement alone: each clause of it is the one that rejects some of
 -- them. What is right of the inputs stands in the bench table or is computed from the rules. Assumes nothing.
+use Rattle.std.specs.Prelude.{Ok, Err}
 use mathlib.Core.Path.{◌≡◌, refl, sym, ◌∙◌, ap}
 use mathlib.Core.Bool.{So}
 use mathlib.Core.List.{List, [], ◌∷◌, ◌++◌}
@@ -11,13 +12,8 @@ use lib.ListN.{length, get_or, take, drop, replicate, get_or-eq_default}
 use Rattle.rules.specs.declared.Corner.{Corner}
 use Rattle.rules.specs.declared.Design.{Design}
 use Rattle.rules.specs.declared.Refusal.TheVariants.{Unfinished, NoPlacement}
-use Rattle.rules.specs.declared.Reply.{Reply}
-use Rattle.rules.specs.declared.Reply.TheVariants.{Done}
+use Rattle.rules.specs.Answers.{Reply, Written, Planned}
 use Rattle.rules.specs.declared.Handed.{Handed}
-use Rattle.rules.specs.declared.Written.{Written}
-use Rattle.rules.specs.declared.Planned.{Planned}
-use Rattle.rules.specs.declared.Planned.TheVariants.{Box, Refused}
-use Rattle.rules.specs.declared.Planned.TheVariants.{Box}
 use Rattle.rules.specs.Search.{all, count, total, least}
 use Rattle.rules.specs.Chip.{corner, shape, rectangle, column, column_of, covers_block, held_between, holds}
 use Rattle.rules.specs.Tree.{has, stands, joined, added, standing}
@@ -177,8 +173,8 @@ small_lawful = (refl, refl)
 flat_rows : List ℕ
 flat_rows = 0 ∷ 0 ∷ 1 ∷ 1 ∷ 1 ∷ 0 ∷ 1 ∷ 1 ∷ []
 
-passing : (verdict D up_to_the_side ≡ Done) × (verdict grown up_to_the_side ≡ Done) × (verdict flat flat_rows ≡ Done)
-    × (verdict cell flat_rows ≡ Done)
+passing : (verdict D up_to_the_side ≡ (Ok tt)) × (verdict grown up_to_the_side ≡ (Ok tt)) × (verdict flat flat_rows ≡ (Ok tt))
+    × (verdict cell flat_rows ≡ (Ok tt))
 unfolding D flat cell flat_rows changed slot_rows padded all least count total stands has joined added standing value_test
     within_limits lawful_chip in_range lawful_need column_of covers_block held_between holds column from_rows is_on_chip is_at_most is_kept judged_cuts judged_rows verdict
 passing = (refl, refl, refl, refl)
@@ -398,14 +394,14 @@ module _ (S : Services) (demand : Demand2 S) where
 -- What the demands leave open a contract settles: of equal areas the narrower (P11), and D's rows to the byte.
 module _ (S : Services) (keeps : Keeping S) (before rows after rows' : List ℕ) (r : Planned) where
   pub planner_takes_the_wide_one : S.plan four before rows r after rows' → Enough four before rows
-      → r ≡ Box (shape 3 4)
+      → r ≡ Ok (shape 3 4)
   unfolding Says
   planner_takes_the_wide_one x h =
       let c = keeps.plan four before rows after rows' r x in
       let (ch, (p, down), _) = four_plan (slots_of four after) (c.listed h).1 in (c.done h (shape 3 4) p ch down).0
 
   pub planner_puts_other_rows : S.plan D before rows r after rows' → Enough D before rows
-      → (r ≡ Box (shape 4 3)) × (rows' ≡ printed ++ drop 8 rows)
+      → (r ≡ Ok (shape 4 3)) × (rows' ≡ printed ++ drop 8 rows)
   unfolding Says D slot_rows rows_out
   planner_puts_other_rows x h =
       let c = keeps.plan D before rows after rows' r x in
@@ -414,19 +410,19 @@ module _ (S : Services) (keeps : Keeping S) (before rows after rows' : List ℕ)
       (a, b ∙ rw (all p down 0 (omega arith), all p down 1 (omega arith)))
 
 -- The program's text is 01's to the byte: of D's floorplan, of 10, and of a number of five digits.
-pub text_of_D : plan_text (Box (shape 4 3)) 2 printed
+pub text_of_D : plan_text (Ok (shape 4 3)) 2 printed
     ≡ 112 ∷ 108 ∷ 97 ∷ 110 ∷ 32 ∷ 48 ∷ 32 ∷ 52 ∷ 32 ∷ 51 ∷ 10
     ∷ 48 ∷ 32 ∷ 48 ∷ 32 ∷ 48 ∷ 32 ∷ 50 ∷ 32 ∷ 51 ∷ 10
     ∷ 49 ∷ 32 ∷ 50 ∷ 32 ∷ 48 ∷ 32 ∷ 50 ∷ 32 ∷ 51 ∷ 10 ∷ []
 unfolding from_rows decimal figures module_line module_lines plan_text
 text_of_D = refl
 
-pub text_of_10 : (m : ℕ) (rows : List ℕ) → plan_text (Refused NoPlacement) m rows
+pub text_of_10 : (m : ℕ) (rows : List ℕ) → plan_text (Err NoPlacement) m rows
     ≡ 112 ∷ 108 ∷ 97 ∷ 110 ∷ 32 ∷ 49 ∷ 48 ∷ 32 ∷ 48 ∷ 10 ∷ []
 unfolding decimal figures plan_text
 text_of_10 m rows = refl
 
-pub text_of_five_digits : (m : ℕ) (rows : List ℕ) → plan_text (Refused (Unfinished 12345)) m rows
+pub text_of_five_digits : (m : ℕ) (rows : List ℕ) → plan_text (Err (Unfinished 12345)) m rows
     ≡ 112 ∷ 108 ∷ 97 ∷ 110 ∷ 32 ∷ 49 ∷ 32 ∷ 49 ∷ 50 ∷ 51 ∷ 52 ∷ 53 ∷ 10 ∷ []
 unfolding decimal figures plan_text
 text_of_five_digits m rows = refl

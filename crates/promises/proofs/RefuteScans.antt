@@ -15,7 +15,7 @@ use Rattle.rules.specs.declared.Direction.TheVariants.{Vertical, Horizontal}
 use Rattle.rules.specs.declared.Token.TheVariants.{Cut}
 use Rattle.rules.specs.declared.Design.{Design}
 use Rattle.rules.specs.declared.Edit.TheVariants.{Turn}
-use Rattle.rules.specs.declared.Reply.{Reply}
+use Rattle.rules.specs.Answers.{Reply}
 use Rattle.rules.specs.declared.Handed.{Handed}
 use Rattle.rules.specs.Search.{any, all, count, total}
 use Rattle.rules.specs.Chip.{corner, shape, rectangle, column, column_of, covers_block, held_between}

@@ -1,6 +1,7 @@
 -- Wrong scores that demand 1 rejects, each by an input over D: what its table leaves there is one answer, and the values in it are Python's,
 -- whose floats are binary64 too, written by their bits. Then what order 1's own promises reject. Nothing of a service is known here but these.
 -- Assumes nothing.
+use Rattle.std.specs.Prelude.{Ok}
 use mathlib.Core.Path.{◌≡◌, refl, sym, ◌∙◌, ap}
 use mathlib.Core.Logic.{◌⊎◌, ⊎_elim}
 use mathlib.Core.Bool.{Bool, true, false, true≢false, false≢true}
@@ -15,10 +16,7 @@ use Rattle.rules.specs.declared.Term.{Term}
 use Rattle.rules.specs.declared.Term.TheVariants.{Area, Ratio, Wire}
 use Rattle.rules.specs.declared.Net.{Net}
 use Rattle.rules.specs.declared.Score.{Score}
-use Rattle.rules.specs.declared.Reply.{Reply}
-use Rattle.rules.specs.declared.Reply.TheVariants.{Done}
-use Rattle.rules.specs.declared.Planned.{Planned}
-use Rattle.rules.specs.declared.Scored.{Scored}
+use Rattle.rules.specs.Answers.{Reply, Planned, Scored}
 use Rattle.rules.specs.Search.{all, least, count, total}
 use Rattle.rules.specs.Chip.{OnChip, shape, column, column_of, covers_block, held_between, holds}
 use Rattle.rules.specs.Tree.{has, stands, joined, added, standing}
@@ -90,7 +88,7 @@ raised = 0 ∷ 3 ∷ 2 ∷ 3 ∷ 2 ∷ 3 ∷ 2 ∷ 3 ∷ []
 abbrev pub staggered : List ℕ
 staggered = 0 ∷ 0 ∷ 2 ∷ 3 ∷ 2 ∷ 3 ∷ 2 ∷ 3 ∷ []
 
-all_pass : (verdict D printed ≡ Done) × (verdict D uneven ≡ Done) × (verdict D higher ≡ Done) × (verdict D raised ≡ Done) × (verdict D staggered ≡ Done)
+all_pass : (verdict D printed ≡ (Ok tt)) × (verdict D uneven ≡ (Ok tt)) × (verdict D higher ≡ (Ok tt)) × (verdict D raised ≡ (Ok tt)) × (verdict D staggered ≡ (Ok tt))
 unfolding D slot_rows padded all least count total stands has joined added standing value_test within_limits lawful_chip in_range lawful_need
     column_of covers_block held_between holds column from_rows is_on_chip is_at_most is_kept judged_cuts judged_rows verdict
 all_pass = (refl, refl, refl, refl, refl)
@@ -137,7 +135,7 @@ gets_refusal f (Demand1.done p _ _) = absurd (f p)
 
 module _ (S : Services) (demand : Demand1.Demand1 S) where
   -- rows of D that pass, with lawful terms and nets; with bad terms; with lawful terms and bad nets
-  module _ {rows : List ℕ} {c : Cost} {r : Scored} (v : verdict D rows ≡ Done) where
+  module _ {rows : List ℕ} {c : Cost} {r : Scored} (v : verdict D rows ≡ (Ok tt)) where
     right : {s : Score} → TermsLawful c → NetsLawful D c → score_of D (from_rows rows) c ≡ s → S.score D rows c r
         → scored_answer r ≡ record { reply = plainly 0 0; values = s }
     right t n e x = gets_values (passed D rows v) t n e (demand.numbered.score D rows c r x)

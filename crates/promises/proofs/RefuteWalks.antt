@@ -10,7 +10,7 @@ use lib.ListN.{length}
 use Rattle.rules.specs.declared.Corner.{Corner}
 use Rattle.rules.specs.declared.Design.{Design}
 use Rattle.rules.specs.declared.Need.{Need}
-use Rattle.rules.specs.declared.Reply.{Reply}
+use Rattle.rules.specs.Answers.{Reply}
 use Rattle.rules.specs.Search.{all, count, total}
 use Rattle.rules.specs.Chip.{corner, column, column_of, covers_block, held_between}
 use Rattle.rules.specs.Tree.{stands, has, joined, added, standing}

@@ -1,6 +1,7 @@
 -- Two designs called the same get the same treatment: what a service's contract allows for the one it allows for the
 -- other, so the answers that it allows for the two are the same. Write tells all other lawful designs apart. Read has
 -- no design among its inputs, so there is nothing to say of it. Assumes nothing.
+use Rattle.std.specs.Prelude.{Ok, Err}
 use mathlib.Core.Path.{◌≡◌, refl, sym, ◌∙◌, ap}
 use mathlib.Core.Logic.{◌↔◌}
 use mathlib.Core.Bool.{So}
@@ -10,12 +11,8 @@ use lib.ListN.{length, take, drop}
 use lib.Seq.{take-append_seam}
 use Rattle.rules.specs.declared.Design.{Design}
 use Rattle.rules.specs.declared.Edit.{Edit}
-use Rattle.rules.specs.declared.Reply.{Reply}
-use Rattle.rules.specs.declared.Reply.TheVariants.{Done, Refused}
+use Rattle.rules.specs.Answers.{Reply, Written, Planned, Scored}
 use Rattle.rules.specs.declared.Handed.{Handed}
-use Rattle.rules.specs.declared.Written.{Written}
-use Rattle.rules.specs.declared.Planned.{Planned}
-use Rattle.rules.specs.declared.Scored.{Scored}
 use Rattle.rules.specs.Design.{Sized, LawfulDesign, SameDesign}
 use Rattle.rules.specs.Edit.{names_place, changed}
 use Rattle.rules.specs.Bytes.{design_bytes}
@@ -105,12 +102,12 @@ module _ {d e : Design} (z : SameDesign d e) (sized : Sized e) where
 
 -- what an edit with this reply hands back
 abbrev handed_back : Design → Edit → Reply → Handed
-handed_back d c Done = record { reply = Done; design = changed d c }
-handed_back d c (Refused f) = record { reply = Refused f; design = d }
+handed_back d c (Ok tt) = record { reply = (Ok tt); design = changed d c }
+handed_back d c (Err f) = record { reply = Err f; design = d }
 
 reply_back : (d : Design) (c : Edit) (f : Reply) → f ≡ (handed_back d c f).reply
-reply_back d c Done = refl
-reply_back d c (Refused f) = refl
+reply_back d c (Ok tt) = refl
+reply_back d c (Err f) = refl
 
 -- Edit hands a design back: for e the answer has the same reply, and beside it the design that is the same. The place
 -- that is changed has to stand in both designs' arrays.

@@ -1,5 +1,6 @@
 -- Order 1's promises of a score. Which outcome of its contract came about is read off its number; a granted one is the score of a
 -- lawful floorplan with lawful terms and nets, of which the rules' laws speak, and rows from plan hold plan's floorplan. Assumes nothing.
+use Rattle.std.specs.Prelude.{Ok}
 use mathlib.Core.Path.{◌≡◌, sym, ◌∙◌, ap}
 use mathlib.Core.Logic.{◌⊎◌, inl, inr, ⊎_elim, ◌↔◌}
 use mathlib.Core.Bool.{true, false, true≢false}
@@ -12,10 +13,7 @@ use lib.ListN.{length, length-append}
 use lib.Ieee.{Float, nan, inf, fin}
 use Rattle.rules.specs.declared.Design.{Design}
 use Rattle.rules.specs.declared.Term.TheVariants.{Area}
-use Rattle.rules.specs.declared.Reply.{Reply}
-use Rattle.rules.specs.declared.Reply.TheVariants.{Done}
-use Rattle.rules.specs.declared.Planned.{Planned}
-use Rattle.rules.specs.declared.Scored.{Scored}
+use Rattle.rules.specs.Answers.{Reply, Planned, Scored}
 use Rattle.rules.specs.Placement.{Placement, area}
 use Rattle.rules.specs.Design.{slots_of}
 use Rattle.rules.specs.Score.{NamedAlike, Cost, exact, no_score, term_at, area_of, amount_of, score_after, score_of}
@@ -51,7 +49,7 @@ zero_finite = up_to_finite 0 (exact 0) (exact_up_to 0 (lit≤ tt))
 
 -- A score that is granted: the checker passes, terms and nets are lawful, and the values are the rules'.
 record Granted (d : Design) (rows : List ℕ) (c : Cost) (r : Scored) : Type 0 where
-  passes : verdict d rows ≡ Done
+  passes : verdict d rows ≡ (Ok tt)
   terms : TermsLawful c
   nets : NetsLawful d c
   values : values_of r ≡ score_of d (from_rows rows) c
@@ -96,7 +94,7 @@ module _ (d : Design) (rows : List ℕ) (c : Cost) (r : Scored) (x : Scores d ro
           rw (x.done v t n) (up_to_finite _ _ a, up_to_finite _ _ b)
 
   -- where the checker passes
-  passed_numbers : verdict d rows ≡ Done → (score_number r ≡ 0) ⊎ ((score_number r ≡ 15) ⊎ (score_number r ≡ 16))
+  passed_numbers : verdict d rows ≡ (Ok tt) → (score_number r ≡ 0) ⊎ ((score_number r ≡ 15) ⊎ (score_number r ≡ 16))
   passed_numbers w = go (scoring d rows c)
     where
       go : Scoring d rows c → (score_number r ≡ 0) ⊎ ((score_number r ≡ 15) ⊎ (score_number r ≡ 16))
@@ -125,7 +123,7 @@ module _ (d : Design) (before rows after rows' : List ℕ) (r : Planned) (h : En
       rw e (simp length-append (omega arith)))
       (planned d h.lawful (slots_of d after) (x.listed h).1)
 
-  planned_passes : verdict d rows' ≡ Done
+  planned_passes : verdict d rows' ≡ (Ok tt)
   planned_passes =
       let g = good in let has = (lawful_tree d h.lawful).modules in
       (passes_iff d h.lawful rows').1 (

@@ -7,11 +7,8 @@ use Prim.Native.Nat.{ℕ, ◌≤◌, ◌<◌}
 use lib.ListN.{length}
 use Rattle.rules.specs.declared.Design.{Design}
 use Rattle.rules.specs.declared.Edit.{Edit}
-use Rattle.rules.specs.declared.Reply.{Reply}
+use Rattle.rules.specs.Answers.{Reply, Written, Planned, Scored}
 use Rattle.rules.specs.declared.Handed.{Handed}
-use Rattle.rules.specs.declared.Written.{Written}
-use Rattle.rules.specs.declared.Planned.{Planned}
-use Rattle.rules.specs.declared.Scored.{Scored}
 use Rattle.rules.specs.Design.{node_at, nodes, root, ListsOf, slot_rows, slots_of, width_of, height_of}
 use Rattle.rules.specs.Edit.{changed, changed_node}
 use Rattle.rules.specs.Bytes.{design_bytes}

@@ -8,10 +8,8 @@ use Rattle.rules.specs.declared.Token.TheVariants.{Cut}
 use Rattle.rules.specs.declared.Design.{Design}
 use Rattle.rules.specs.declared.Edit.{Edit}
 use Rattle.rules.specs.declared.Edit.TheVariants.{Change, Turn}
-use Rattle.rules.specs.declared.Reply.{Reply}
+use Rattle.rules.specs.Answers.{Reply, Written, Planned}
 use Rattle.rules.specs.declared.Handed.{Handed}
-use Rattle.rules.specs.declared.Written.{Written}
-use Rattle.rules.specs.declared.Planned.{Planned}
 use Rattle.rules.specs.Chip.{SameChip}
 use Rattle.rules.specs.Tree.{spans}
 use Rattle.rules.specs.Slot.{CornerOn, PastKept}

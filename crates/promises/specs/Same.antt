@@ -4,11 +4,8 @@
 use Rattle.std.specs.Prelude.{◌≡◌, List, ℕ}
 use Rattle.rules.specs.declared.Design.{Design}
 use Rattle.rules.specs.declared.Edit.{Edit}
-use Rattle.rules.specs.declared.Reply.{Reply}
+use Rattle.rules.specs.Answers.{Reply, Written, Planned, Scored}
 use Rattle.rules.specs.declared.Handed.{Handed}
-use Rattle.rules.specs.declared.Written.{Written}
-use Rattle.rules.specs.declared.Planned.{Planned}
-use Rattle.rules.specs.declared.Scored.{Scored}
 use Rattle.rules.specs.Design.{SameDesign}
 use Rattle.rules.specs.Score.{Cost, SameCost}
 use Rattle.promises.specs.Services.{Services}

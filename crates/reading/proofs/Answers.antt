@@ -1,5 +1,6 @@
 -- What a caller learns of the rules from an answer of the code: something was taken, or a refusal ended the reading. The answers'
 -- constructors tell which. Assumes nothing.
+use Rattle.std.specs.Prelude.{Ok, Err}
 use mathlib.Core.Path.{◌≡◌, refl, sym, ◌∙◌}
 use mathlib.Core.Bool.{Bool, true, false, ◌&&◌}
 use mathlib.Core.List.{List}
@@ -11,7 +12,6 @@ use Rattle.rules.specs.declared.Need.{Need}
 use Rattle.rules.specs.declared.Design.{Design}
 use Rattle.rules.specs.declared.Refusal.{Refusal}
 use Rattle.rules.specs.declared.Refusal.TheVariants.{BreaksLimits}
-use Rattle.rules.specs.declared.Reply.TheVariants.{Done, Refused}
 use Rattle.rules.specs.Design.{last_kind, lawful_kind, in_range}
 use Rattle.rules.specs.Bytes.{Took, took, refuse, and_then, judged, number_at, checked_at, limited_at, need_of}
 use Rattle.rules.specs.Service.{zeros}
@@ -97,7 +97,7 @@ module _ (s : List ℕ) (at : ℕ) {r : NumberReply} (e : r ≡ reply_of (limite
 
 -- a stage was done, or refused
 module _ (t : Took Design) {r : Stage} (e : r ≡ stage t) where
-  pub stage_done : r.reply ≡ Done → t ≡ took r.design r.next
+  pub stage_done : r.reply ≡ (Ok tt) → t ≡ took r.design r.next
   unfolding stage
   stage_done d = go t e
     where
@@ -105,7 +105,7 @@ module _ (t : Took Design) {r : Stage} (e : r ≡ stage t) where
       go (took a n) e = rw e
       go (refuse x) e = let z : ◌≡◌ {A = ℕ} 0 1 = cc in absurd (omega arith)
 
-  pub stage_refused : {x : Refusal} → r.reply ≡ Refused x → (t ≡ refuse x) × (r.design ≡ zeros)
+  pub stage_refused : {x : Refusal} → r.reply ≡ Err x → (t ≡ refuse x) × (r.design ≡ zeros)
   unfolding stage
   stage_refused {x} d = go t e
     where

@@ -1,12 +1,11 @@
 -- A design is read in four stages, in file order, each over the design that the last one left; Whole.antt, in proofs/, shows that
 -- they are the rules' reading. A stage answers with the design so far, or with a refusal beside zeros.
-use Rattle.std.specs.Prelude.{List, [], ℕ, eqb}
+use Rattle.std.specs.Prelude.{List, [], ℕ, eqb, Ok, Err}
 use Rattle.rules.specs.declared.Need.{Need}
 use Rattle.rules.specs.declared.Chip.{Chip}
 use Rattle.rules.specs.declared.Design.{Design}
 use Rattle.rules.specs.declared.Refusal.TheVariants.{WrongForm, BreaksLimits}
-use Rattle.rules.specs.declared.Reply.{Reply}
-use Rattle.rules.specs.declared.Reply.TheVariants.{Done, Refused}
+use Rattle.rules.specs.Answers.{Reply}
 use Rattle.rules.specs.Design.{most_columns, most_rows, lawful_kind, most_modules, most_tokens, no_need, nodes, width_of, with_chip, with_modules, with_tokens}
 use Rattle.rules.specs.Bytes.{Took, took, refuse, and_then, checked_at, limited_at, row_at, need_of, tokens_at, padded, chip_from, design_from}
 use Rattle.rules.specs.Service.{zeros}
@@ -18,13 +17,13 @@ use Rattle.reading.specs.declared.OneNeed.{OneNeed}
 
 -- a number's refusal travels whole
 abbrev pub replied : NumberReply → Reply
-replied (Number value next) = Done
-replied (number.Refused e) = Refused e
+replied (Number value next) = (Ok tt)
+replied (number.Refused e) = Err e
 
 -- the answers of the code for what the rules take from the bytes
 unfoldable pub stage : Took Design → Stage
-stage (took d next) = record { reply = Done; next = next; design = d }
-stage (refuse e) = record { reply = Refused e; next = 0; design = zeros }
+stage (took d next) = record { reply = (Ok tt); next = next; design = d }
+stage (refuse e) = record { reply = Err e; next = 0; design = zeros }
 
 unfoldable pub one_need : Took Need → OneNeed
 one_need (took n next) = record { number = Number n.multipliers next; need = n }

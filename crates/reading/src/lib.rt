@@ -10,10 +10,7 @@ ghost use Rattle.numbers.specs.Replies.{reply_of};
 ghost use Rattle.reading.specs.Stages.{replied, stage, one_need, sizes_at, kinds_at, needs_at, tree_at};
 
 use numbers::NumberReply;
-use rules::{
-    Chip, Columns, Design, Handed, LAST_KIND, MOST_COLUMNS, MOST_MODULES, MOST_ROWS, MOST_TOKENS,
-    Need, Refusal, Reply, Rows,
-};
+use rules::{Chip, Columns, Design, Handed, LAST_KIND, MOST_COLUMNS, MOST_MODULES, MOST_ROWS, MOST_TOKENS, Need, Refusal, Rows};
 use tokens::token_of_number;
 
 // A need before it is read.
@@ -26,7 +23,7 @@ const NO_NEED: Need = Need {
 // How far the reading has come: the design so far and the position after it, or a refusal beside zeros.
 #[derive(Clone, Copy)]
 pub struct Stage {
-    pub reply: Reply,
+    pub reply: Result<(), Refusal>,
     pub next: usize,
     pub design: Design,
 }
@@ -67,12 +64,12 @@ fn limited(s: &[u8], at: usize, low: usize, most: usize) -> NumberReply
 }
 
 // The reply that a number gives: its refusal travels whole.
-fn said(number: NumberReply) -> Reply
+fn said(number: NumberReply) -> Result<(), Refusal>
     ensures { result ≡ replied number }
 {
     match number {
-        NumberReply::Number { value: _, next: _ } => Reply::Done,
-        NumberReply::Refused(e) => Reply::Refused(e),
+        NumberReply::Number { value: _, next: _ } => Ok(()),
+        NumberReply::Refused(e) => Err(e),
     }
 }
 
@@ -132,7 +129,7 @@ fn read_sizes(s: &[u8]) -> Stage
     };
     let design = empty(Columns(w), Rows(h), Rows(b));
     Stage {
-        reply: Reply::Done,
+        reply: Ok(()),
         next,
         design,
     }
@@ -159,7 +156,7 @@ fn read_kinds(s: &[u8], last: Stage) -> Stage
     chip.kinds = kinds;
     design.chip = chip;
     Stage {
-        reply: Reply::Done,
+        reply: Ok(()),
         next: at,
         design,
     }
@@ -224,7 +221,7 @@ fn read_needs(s: &[u8], last: Stage) -> Stage
     design.modules = m;
     design.needs = needs;
     Stage {
-        reply: Reply::Done,
+        reply: Ok(()),
         next: at,
         design,
     }
@@ -258,7 +255,7 @@ fn read_tokens(s: &[u8], last: Stage) -> Stage
     }
     design.tokens = tokens;
     Stage {
-        reply: Reply::Done,
+        reply: Ok(()),
         next: at,
         design,
     }
@@ -279,22 +276,22 @@ pub fn read_design(s: &[u8]) -> Handed
 {
     let sizes = read_sizes(s);
     let reply = sizes.reply;
-    let Reply::Done = reply else {
+    let Ok(()) = reply else {
         return hand_back(sizes);
     };
     let columns = read_kinds(s, sizes);
     let reply = columns.reply;
-    let Reply::Done = reply else {
+    let Ok(()) = reply else {
         return hand_back(columns);
     };
     let modules = read_needs(s, columns);
     let reply = modules.reply;
-    let Reply::Done = reply else {
+    let Ok(()) = reply else {
         return hand_back(modules);
     };
     let tree = read_tokens(s, modules);
     let reply = tree.reply;
-    let Reply::Done = reply else {
+    let Ok(()) = reply else {
         return hand_back(tree);
     };
     if tree.next != s.len() {

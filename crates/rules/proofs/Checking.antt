@@ -1,5 +1,6 @@
 -- The checker passes exactly the lawful placements, and a refusal names the first fault: each test says what it tests, and
 -- the least number that fails its test is the first. Assumes nothing.
+use Rattle.std.specs.Prelude.{Ok, Err}
 use mathlib.Core.Path.{◌≡◌, refl, sym, ◌∙◌}
 use mathlib.Core.Logic.{◌⊎◌, inl, inr, ◌↔◌}
 use mathlib.Core.Bool.{Bool, true, false, not, ◌&&◌, ◌||◌, So}
@@ -13,8 +14,7 @@ use Rattle.rules.specs.declared.Rectangle.{Rectangle}
 use Rattle.rules.specs.declared.Direction.{Direction}
 use Rattle.rules.specs.declared.Design.{Design}
 use Rattle.rules.specs.declared.Refusal.TheVariants.{TooShort, OffTheChip, ShortOfNeed, CutNotKept}
-use Rattle.rules.specs.declared.Reply.{Reply}
-use Rattle.rules.specs.declared.Reply.TheVariants.{Done, Refused}
+use Rattle.rules.specs.Answers.{Reply}
 use Rattle.rules.specs.Search.{all, least}
 use Rattle.rules.specs.Chip.{OnChip, holds}
 use Rattle.rules.specs.Tree.{Tree, leaf, cut, has}
@@ -88,10 +88,10 @@ first_fault f n = go (ltb r n) refl
 
 -- what each reply of the checker says of a placement for a lawful design
 pub data Judged (d : Design) (p : Placement) : Reply → Type 0 where
-  passed : ((k : ℕ) → k < d.modules → Fine d p k) → ((t : ℕ) → t < nodes d → KeptAt p (node_at d t)) → Judged d p Done
-  off_the_chip : {k : ℕ} → FirstOff d p k → Judged d p (Refused (OffTheChip k))
-  short_of_need : {k : ℕ} → FirstShort d p k → Judged d p (Refused (ShortOfNeed k))
-  cut_not_kept : {t : ℕ} → FirstNotKept d p t → Judged d p (Refused (CutNotKept t))
+  passed : ((k : ℕ) → k < d.modules → Fine d p k) → ((t : ℕ) → t < nodes d → KeptAt p (node_at d t)) → Judged d p (Ok tt)
+  off_the_chip : {k : ℕ} → FirstOff d p k → Judged d p (Err (OffTheChip k))
+  short_of_need : {k : ℕ} → FirstShort d p k → Judged d p (Err (ShortOfNeed k))
+  cut_not_kept : {t : ℕ} → FirstNotKept d p t → Judged d p (Err (CutNotKept t))
 
 module _ (d : Design) (lawful : LawfulDesign d) (p : Placement) where
   fine_iff : (k : ℕ) → So (is_on d (p k) && is_suited d k (p k)) ↔ Fine d p k
@@ -116,7 +116,7 @@ module _ (d : Design) (lawful : LawfulDesign d) (p : Placement) where
   judged_cuts_lem f = go _ (first_fault (λ t. kept_at d.modules p (node_at d t)) (nodes d))
     where
       go : (r : ℕ) → Fault (λ t. kept_at d.modules p (node_at d t)) (nodes d) r
-          → Judged d p (elim (ltb r (nodes d)) as (λ _. Reply) [ true ↦ Refused (CutNotKept r) | false ↦ Done ])
+          → Judged d p (elim (ltb r (nodes d)) as (λ _. Reply) [ true ↦ Err (CutNotKept r) | false ↦ (Ok tt) ])
       go r (first e x before) =
           let h = (ltb_iff r (nodes d)).0 e in
           rw e (cut_not_kept (record {
@@ -134,7 +134,7 @@ module _ (d : Design) (lawful : LawfulDesign d) (p : Placement) where
     where
       go : (r : ℕ) → Fault (λ k. is_on d (p k) && is_suited d k (p k)) d.modules r
           → Judged d p (elim (ltb r d.modules) as (λ _. Reply) [
-            | true ↦ elim (is_on d (p r)) as (λ _. Reply) [ true ↦ Refused (ShortOfNeed r) | false ↦ Refused (OffTheChip r) ]
+            | true ↦ elim (is_on d (p r)) as (λ _. Reply) [ true ↦ Err (ShortOfNeed r) | false ↦ Err (OffTheChip r) ]
             | false ↦ judged_cuts d p
           ])
       go r (first e x before) = rw e (fault (is_on d (p r)) refl)
@@ -146,7 +146,7 @@ module _ (d : Design) (lawful : LawfulDesign d) (p : Placement) where
           on = on_chip_iff (width_of d) (height_of d) (p r)
 
           fault : (b : Bool) → is_on d (p r) ≡ b
-              → Judged d p (elim b as (λ _. Reply) [ true ↦ Refused (ShortOfNeed r) | false ↦ Refused (OffTheChip r) ])
+              → Judged d p (elim b as (λ _. Reply) [ true ↦ Err (ShortOfNeed r) | false ↦ Err (OffTheChip r) ])
           fault true q = short_of_need (record {
             below = h;
             before = λ j l. (fine_iff j).0 (before j l);
@@ -161,22 +161,22 @@ module _ (d : Design) (lawful : LawfulDesign d) (p : Placement) where
       go r (none e each) = rw e (judged_cuts_lem (λ k h. (fine_iff k).0 (each k h)))
 
 -- no design but a lawful one passes
-pub passed_is_lawful : (d : Design) (rows : List ℕ) → verdict d rows ≡ Done → LawfulDesign d
+pub passed_is_lawful : (d : Design) (rows : List ℕ) → verdict d rows ≡ (Ok tt) → LawfulDesign d
 unfolding verdict
 passed_is_lawful d rows e = go (value_test d) _ e
   where
-    go : (r next : Reply) → after_tests r next ≡ Done → r ≡ Done
-    go Done next e = refl
-    go (Refused x) next e = let z : ◌≡◌ {A = ℕ} 0 1 = cc in absurd (omega arith)
+    go : (r next : Reply) → after_tests r next ≡ (Ok tt) → r ≡ (Ok tt)
+    go (Ok tt) next e = refl
+    go (Err x) next e = let z : ◌≡◌ {A = ℕ} 0 1 = cc in absurd (omega arith)
 
 module _ (d : Design) (lawful : LawfulDesign d) (rows : List ℕ) where
   -- rows too short, then what the placement in them is
-  pub verdict_too_short : length rows < 4 * d.modules → verdict d rows ≡ Refused TooShort
+  pub verdict_too_short : length rows < 4 * d.modules → verdict d rows ≡ Err TooShort
   unfolding verdict
   verdict_too_short h = rw lawful (go (leb (4 * d.modules) (length rows)) refl)
     where
       go : (b : Bool) → leb (4 * d.modules) (length rows) ≡ b
-          → elim b as (λ _. Reply) [ true ↦ judged_rows d (from_rows rows) | false ↦ Refused TooShort ] ≡ Refused TooShort
+          → elim b as (λ _. Reply) [ true ↦ judged_rows d (from_rows rows) | false ↦ Err TooShort ] ≡ Err TooShort
       go true e = let l = (leb_iff (4 * d.modules) (length rows)).0 e in absurd (omega arith)
       go false e = refl
 
@@ -185,7 +185,7 @@ module _ (d : Design) (lawful : LawfulDesign d) (rows : List ℕ) where
   verdict_judged h = rw (lawful, (leb_iff (4 * d.modules) (length rows)).1 h) (judged_rows_lem d lawful (from_rows rows))
 
   -- any other reply judges the placement
-  pub judged : (r : Reply) → (r ≡ Refused TooShort → ⊥) → verdict d rows ≡ r → (4 * d.modules ≤ length rows) × Judged d (from_rows rows) r
+  pub judged : (r : Reply) → (r ≡ Err TooShort → ⊥) → verdict d rows ≡ r → (4 * d.modules ≤ length rows) × Judged d (from_rows rows) r
   judged r o e = go (dec_le (4 * d.modules) (length rows))
     where
       go : Dec (4 * d.modules ≤ length rows) → (4 * d.modules ≤ length rows) × Judged d (from_rows rows) r
@@ -193,44 +193,44 @@ module _ (d : Design) (lawful : LawfulDesign d) (rows : List ℕ) where
       go (no h) = absurd (o (sym e ∙ verdict_too_short (omega arith)))
 
   -- "The separate checker passes exactly the lawful placements."
-  pub passes_iff : (verdict d rows ≡ Done)
+  pub passes_iff : (verdict d rows ≡ (Ok tt))
       ↔ ((4 * d.modules ≤ length rows) × Lawful (width_of d) (height_of d) (SuitsOf d) (root d) (from_rows rows))
   passes_iff = (
-    λ e. let (h, j) = judged Done (λ q. let z : ◌≡◌ {A = ℕ} 0 1 = cc in omega arith) e in (h, to j),
+    λ e. let (h, j) = judged (Ok tt) (λ q. let z : ◌≡◌ {A = ℕ} 0 1 = cc in omega arith) e in (h, to j),
     λ t. back (verdict_judged t.0) t.1,
   )
     where
       has_iff : (k : ℕ) → So (has (root d) k) ↔ (k < d.modules)
       has_iff = (lawful_tree d lawful).modules
 
-      to : Judged d (from_rows rows) Done → Lawful (width_of d) (height_of d) (SuitsOf d) (root d) (from_rows rows)
+      to : Judged d (from_rows rows) (Ok tt) → Lawful (width_of d) (height_of d) (SuitsOf d) (root d) (from_rows rows)
       to (passed f k) = record {
         on_chip = λ i t. (f i ((has_iff i).0 t)).on_chip;
         suits = λ i t. (f i ((has_iff i).0 t)).suits;
         follows = (follows_by_nodes d lawful (from_rows rows)).1 k;
       }
 
-      back : {r : Reply} → Judged d (from_rows rows) r → Lawful (width_of d) (height_of d) (SuitsOf d) (root d) (from_rows rows) → r ≡ Done
+      back : {r : Reply} → Judged d (from_rows rows) r → Lawful (width_of d) (height_of d) (SuitsOf d) (root d) (from_rows rows) → r ≡ (Ok tt)
       back (passed f k) L = refl
       back (off_the_chip {k = k} x) L = absurd (x.fault (L.on_chip k ((has_iff k).1 x.below)))
       back (short_of_need {k = k} x) L = absurd (x.fault (L.suits k ((has_iff k).1 x.below)))
       back (cut_not_kept {t = t} x) L = absurd (x.fault ((follows_by_nodes d lawful (from_rows rows)).0 L.follows t x.below))
 
   -- a refusal with 12, 13 or 14 names the first fault
-  pub names_off_the_chip : (k : ℕ) → verdict d rows ≡ Refused (OffTheChip k) → FirstOff d (from_rows rows) k
-  names_off_the_chip k e = go (judged (Refused (OffTheChip k)) (λ q. let z : ◌≡◌ {A = ℕ} 0 1 = cc in omega arith) e).1
+  pub names_off_the_chip : (k : ℕ) → verdict d rows ≡ Err (OffTheChip k) → FirstOff d (from_rows rows) k
+  names_off_the_chip k e = go (judged (Err (OffTheChip k)) (λ q. let z : ◌≡◌ {A = ℕ} 0 1 = cc in omega arith) e).1
     where
-      go : Judged d (from_rows rows) (Refused (OffTheChip k)) → FirstOff d (from_rows rows) k
+      go : Judged d (from_rows rows) (Err (OffTheChip k)) → FirstOff d (from_rows rows) k
       go (off_the_chip x) = x
 
-  pub names_short_of_need : (k : ℕ) → verdict d rows ≡ Refused (ShortOfNeed k) → FirstShort d (from_rows rows) k
-  names_short_of_need k e = go (judged (Refused (ShortOfNeed k)) (λ q. let z : ◌≡◌ {A = ℕ} 0 1 = cc in omega arith) e).1
+  pub names_short_of_need : (k : ℕ) → verdict d rows ≡ Err (ShortOfNeed k) → FirstShort d (from_rows rows) k
+  names_short_of_need k e = go (judged (Err (ShortOfNeed k)) (λ q. let z : ◌≡◌ {A = ℕ} 0 1 = cc in omega arith) e).1
     where
-      go : Judged d (from_rows rows) (Refused (ShortOfNeed k)) → FirstShort d (from_rows rows) k
+      go : Judged d (from_rows rows) (Err (ShortOfNeed k)) → FirstShort d (from_rows rows) k
       go (short_of_need x) = x
 
-  pub names_cut_not_kept : (t : ℕ) → verdict d rows ≡ Refused (CutNotKept t) → FirstNotKept d (from_rows rows) t
-  names_cut_not_kept t e = go (judged (Refused (CutNotKept t)) (λ q. let z : ◌≡◌ {A = ℕ} 0 1 = cc in omega arith) e).1
+  pub names_cut_not_kept : (t : ℕ) → verdict d rows ≡ Err (CutNotKept t) → FirstNotKept d (from_rows rows) t
+  names_cut_not_kept t e = go (judged (Err (CutNotKept t)) (λ q. let z : ◌≡◌ {A = ℕ} 0 1 = cc in omega arith) e).1
     where
-      go : Judged d (from_rows rows) (Refused (CutNotKept t)) → FirstNotKept d (from_rows rows) t
+      go : Judged d (from_rows rows) (Err (CutNotKept t)) → FirstNotKept d (from_rows rows) t
       go (cut_not_kept x) = x

@@ -1,5 +1,6 @@
 -- Costs that agree at all places that count have the same score, and so have same designs. A net's half perimeter hangs on which modules it
 -- names alone: the greatest and the least centre are those of a member. Assumes nothing.
+use Rattle.std.specs.Prelude.{Ok}
 use mathlib.Core.Path.{◌≡◌, refl, sym, ◌∙◌, ap}
 use mathlib.Core.Bool.{So}
 use mathlib.Core.List.{List}
@@ -13,8 +14,7 @@ use Rattle.rules.specs.declared.Direction.TheVariants.{Vertical, Horizontal}
 use Rattle.rules.specs.declared.Term.{Term}
 use Rattle.rules.specs.declared.Term.TheVariants.{Area, Ratio, Wire}
 use Rattle.rules.specs.declared.Net.{Net}
-use Rattle.rules.specs.declared.Scored.{Scored}
-use Rattle.rules.specs.declared.Scored.TheVariants.{Values}
+use Rattle.rules.specs.Answers.{Scored}
 use Rattle.rules.specs.Placement.{Placement}
 use Rattle.rules.specs.Design.{SameDesign}
 use Rattle.rules.specs.Check.{from_rows}
@@ -119,5 +119,5 @@ scores_alike d rows {a} {b} z s =
       judged = s.judged;
       bad_term = λ p f. s.bad_term p (λ l. f (sym t ∙ l));
       bad_net = λ p l f. s.bad_net p (t ∙ l) (λ k. f (sym n ∙ k));
-      done = λ p l k. s.done p (t ∙ l) (n ∙ k) ∙ ap Values (score_same z (same_refl d) (from_rows rows) (n ∙ k));
+      done = λ p l k. s.done p (t ∙ l) (n ∙ k) ∙ ap Ok (score_same z (same_refl d) (from_rows rows) (n ∙ k));
     }

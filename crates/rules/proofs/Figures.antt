@@ -1,5 +1,6 @@
 -- The figures of the bench table, computed from the rules' tests: one test for all rows, closed by computation alone.
 -- Assumes nothing.
+use Rattle.std.specs.Prelude.{Ok}
 use mathlib.Core.Path.{◌≡◌, refl}
 use mathlib.Core.Bool.{Bool, true, false, ◌&&◌}
 use mathlib.Core.List.{List, [], ◌∷◌, ◌++◌}
@@ -10,7 +11,6 @@ use Rattle.rules.specs.declared.Corner.{Corner}
 use Rattle.rules.specs.declared.Shape.{Shape}
 use Rattle.rules.specs.declared.Direction.{Direction}
 use Rattle.rules.specs.declared.Design.{Design}
-use Rattle.rules.specs.declared.Reply.TheVariants.{Done}
 use Rattle.rules.specs.Search.{any, all, least, count, total}
 use Rattle.rules.specs.Chip.{corner, column, column_of, covers_block, held_between, holds}
 use Rattle.rules.specs.Tree.{Tree, leaf, cut, has, stands, joined, added, standing}
@@ -57,11 +57,11 @@ unfoldable pub Computes : Example → Type 0
 Computes (lists d c shapes) = (widths_rise (width_of d) 0 shapes ≡ true) × (tab (width_of d) (tree_list d (root d) c) ≡ tab (width_of d) (bytes_of shapes))
 Computes (contains d r n) = holds d.chip r ≡ n
 Computes (slot_is d start bytes) = (slot_start (width_of d) (slot_rows d) (nodes d - 1) (corner 0 0) ≡ start) × (tab (width_of d) (tree_list d (root d) (corner 0 0)) ≡ bytes)
-Computes (pairs_to d bytes) = (value_test d ≡ Done) × Pairs d bytes (root d)
+Computes (pairs_to d bytes) = (value_test d ≡ (Ok tt)) × Pairs d bytes (root d)
 Computes (plans_to d s rs) =
-    (value_test d ≡ Done) × (best_width (root_slot d (computed d)) (width_of d) ≡ s.w.0) × (root_slot d (computed d) (s.w.0 - 1) ≡ s.h.0)
+    (value_test d ≡ (Ok tt)) × (best_width (root_slot d (computed d)) (width_of d) ≡ s.w.0) × (root_slot d (computed d) (s.w.0 - 1) ≡ s.h.0)
     × (leb 1 s.w.0 && leb (length rs) d.modules ≡ true) × (tab (length rs) (laid_for d (computed d) s) ≡ rs)
-Computes (has_none d) = (value_test d ≡ Done) × (best_width (root_slot d (computed d)) (width_of d) ≡ 0)
+Computes (has_none d) = (value_test d ≡ (Ok tt)) × (best_width (root_slot d (computed d)) (width_of d) ≡ 0)
 Computes (reads s t) = design_at s ≡ t
 
 unfoldable pub AllCompute : List Example → Type 0

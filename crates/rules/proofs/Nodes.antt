@@ -1,5 +1,6 @@
 -- The nodes of a lawful design: its tokens leave one thing standing, and what stands last after each is a part of it, so what holds
 -- of every node holds of every part of the tree. Assumes nothing.
+use Rattle.std.specs.Prelude.{Ok, Err}
 use mathlib.Core.Path.{◌≡◌, refl}
 use mathlib.Core.Logic.{◌↔◌}
 use mathlib.Core.Bool.{Bool, true, false, So}
@@ -11,8 +12,7 @@ use Rattle.rules.specs.declared.Token.TheVariants.{Module, Beyond}
 use Rattle.rules.specs.declared.Design.{Design}
 use Rattle.rules.specs.declared.Refusal.{Refusal}
 use Rattle.rules.specs.declared.Refusal.TheVariants.{BreaksLimits, NotOneThing}
-use Rattle.rules.specs.declared.Reply.{Reply}
-use Rattle.rules.specs.declared.Reply.TheVariants.{Done, Refused}
+use Rattle.rules.specs.Answers.{Reply}
 use Rattle.rules.specs.Tree.{Tree, leaf, cut, position, has, Standing, refused, things, last}
 use Rattle.rules.specs.Placement.{Placement, Follows, KeptAt}
 use Rattle.rules.specs.Design.{most_modules, token_at, nodes, in_range, within_limits, standing_of, node_at, root, tree_test, value_test, LawfulDesign}
@@ -24,44 +24,44 @@ pub modules_within : (d : Design) → So (within_limits d) → (0 < d.modules) �
 unfolding within_limits in_range
 modules_within d t = let s = simp test-iffs at t in (omega arith, omega arith)
 
-pub never_not_one_thing : (d : Design) (i : ℕ) → So (within_limits d) → tree_test (standing_of d (nodes d)) ≡ Refused (NotOneThing i) → ⊥
+pub never_not_one_thing : (d : Design) (i : ℕ) → So (within_limits d) → tree_test (standing_of d (nodes d)) ≡ Err (NotOneThing i) → ⊥
 never_not_one_thing d i t e = go (standing_of d (nodes d)) refl e
   where
-    go : (s : Standing) → standing_of d (nodes d) ≡ s → tree_test s ≡ Refused (NotOneThing i) → ⊥
+    go : (s : Standing) → standing_of d (nodes d) ≡ s → tree_test s ≡ Err (NotOneThing i) → ⊥
     go refused q e = let z : ◌≡◌ {A = ℕ} 0 1 = cc in omega arith
     go (things ts) q e =
         let (u, w, o, x) = one_stands d.modules (token_at d) ts (modules_within d t).0 q in
-        let e' : Done ≡ Refused (NotOneThing i) = rw w at e in let z : ◌≡◌ {A = ℕ} 0 1 = cc in omega arith
+        let e' : (Ok tt) ≡ Err (NotOneThing i) = rw w at e in let z : ◌≡◌ {A = ℕ} 0 1 = cc in omega arith
 
 -- a lawful design is within the limits, and one thing stands in the end
 pub lawful_iff : (d : Design) → LawfulDesign d ↔ (So (within_limits d) × (standing_of d (nodes d) ≡ things (root d ∷ [])))
 unfolding value_test
 lawful_iff d = (λ e. to (within_limits d) refl e, λ t. rw (t.0, value_test, t.1))
   where
-    one : (s : Standing) → tree_test s ≡ Done → s ≡ things (last s ∷ [])
+    one : (s : Standing) → tree_test s ≡ (Ok tt) → s ≡ things (last s ∷ [])
     one refused e = let z : ◌≡◌ {A = ℕ} 0 1 = cc in absurd (omega arith)
     one (things []) e = let z : ◌≡◌ {A = ℕ} 0 1 = cc in absurd (omega arith)
     one (things (t ∷ [])) e = refl
     one (things (t ∷ (u ∷ ts))) e = let z : ◌≡◌ {A = ℕ} 0 1 = cc in absurd (omega arith)
 
     to : (b : Bool) → within_limits d ≡ b
-        → elim b as (λ _. Reply) [ true ↦ tree_test (standing_of d (nodes d)) | false ↦ Refused (BreaksLimits 0) ] ≡ Done
+        → elim b as (λ _. Reply) [ true ↦ tree_test (standing_of d (nodes d)) | false ↦ Err (BreaksLimits 0) ] ≡ (Ok tt)
         → So (within_limits d) × (standing_of d (nodes d) ≡ things (root d ∷ []))
     to true t e = (t, one (standing_of d (nodes d)) e)
     to false t e = let z : ◌≡◌ {A = ℕ} 0 1 = cc in absurd (omega arith)
 
 -- a reply is done or refused, and refused for one reason
-pub not_both : {r : Reply} {e : Refusal} {A : Type 0} → r ≡ Refused e → r ≡ Done → A
+pub not_both : {r : Reply} {e : Refusal} {A : Type 0} → r ≡ Err e → r ≡ (Ok tt) → A
 not_both p q = let z : ◌≡◌ {A = ℕ} 0 1 = cc in absurd (omega arith)
 
-pub one_refusal : {r : Reply} {e f : Refusal} → r ≡ Refused e → r ≡ Refused f → e ≡ f
+pub one_refusal : {r : Reply} {e f : Refusal} → r ≡ Err e → r ≡ Err f → e ≡ f
 one_refusal p q = cc
 
 -- so a design that its tests refuse is not lawful
-pub never_both : (d : Design) {e : Refusal} {A : Type 0} → value_test d ≡ Refused e → LawfulDesign d → A
+pub never_both : (d : Design) {e : Refusal} {A : Type 0} → value_test d ≡ Err e → LawfulDesign d → A
 never_both d u l = not_both u l
 
-pub same_refusal : (d : Design) {e f : Refusal} → value_test d ≡ Refused e → value_test d ≡ Refused f → e ≡ f
+pub same_refusal : (d : Design) {e f : Refusal} → value_test d ≡ Err e → value_test d ≡ Err f → e ≡ f
 same_refusal d p q = one_refusal p q
 
 -- the tree of a lawful design

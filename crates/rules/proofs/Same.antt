@@ -1,6 +1,7 @@
 -- "Places beyond W, m and 2m-1 in it are ignored, also when two designs are called the same": what the rules say of a
 -- design they say of every design called the same, since each sum, test and tree looks only below those bounds. And
 -- lawful designs are called the same exactly if their bytes are, since read back they give the design. Assumes nothing.
+use Rattle.std.specs.Prelude.{Ok, Err}
 use mathlib.Core.Path.{subst₃, ◌≡◌, refl, sym, ◌∙◌, ap}
 use mathlib.Core.Logic.{◌↔◌}
 use mathlib.Core.Bool.{Bool, true, false, not, ◌&&◌, So}
@@ -15,8 +16,7 @@ use Rattle.rules.specs.declared.Design.{Design}
 use Rattle.rules.specs.declared.Edit.{Edit}
 use Rattle.rules.specs.declared.Edit.TheVariants.{Change, Turn}
 use Rattle.rules.specs.declared.Refusal.TheVariants.{BreaksLimits, TooShort, OffTheChip, ShortOfNeed, CutNotKept}
-use Rattle.rules.specs.declared.Reply.{Reply}
-use Rattle.rules.specs.declared.Reply.TheVariants.{Done, Refused}
+use Rattle.rules.specs.Answers.{Reply}
 use Rattle.rules.specs.Chip.{kind_at, column, column_of, holds, SameChip}
 use Rattle.rules.specs.Tree.{number_of, is_cut, is_module, token_of, last}
 use Rattle.rules.specs.Placement.{Placement}
@@ -174,7 +174,7 @@ module _ {d e : Design} (z : SameDesign d e) where
   unfolding value_test
   test_same = λ i. elim (limits_same i) as (λ _. Reply) [
     | true ↦ tree_test (whole_same i)
-    | false ↦ Refused (BreaksLimits 0)
+    | false ↦ Err (BreaksLimits 0)
   ]
 
   pub lawful_same : LawfulDesign d → LawfulDesign e
@@ -198,7 +198,7 @@ module _ {d e : Design} (z : SameDesign d e) where
   cuts_same p =
       let kept : Below (nodes d) (not_kept d p) (not_kept e p) = λ t h. rw (node_same t h, z.modules) in
       let first = least_below (not_kept d p) (not_kept e p) (nodes d) (nodes e) nodes_same kept in
-      λ i. elim (ltb (first i) (nodes_same i)) as (λ _. Reply) [ true ↦ Refused (CutNotKept (first i)) | false ↦ Done ]
+      λ i. elim (ltb (first i) (nodes_same i)) as (λ _. Reply) [ true ↦ Err (CutNotKept (first i)) | false ↦ (Ok tt) ]
 
   judged_same : (p : Placement) → judged_rows d p ≡ judged_rows e p
   unfolding judged_rows
@@ -208,8 +208,8 @@ module _ {d e : Design} (z : SameDesign d e) where
       let first = least_below (not_fine d p) (not_fine e p) d.modules e.modules z.modules fine in
       λ i. elim (ltb (first i) (z.modules i)) as (λ _. Reply) [
         | true ↦ elim (on_same (p (first i)) i) as (λ _. Reply) [
-          | true ↦ Refused (ShortOfNeed (first i))
-          | false ↦ Refused (OffTheChip (first i))
+          | true ↦ Err (ShortOfNeed (first i))
+          | false ↦ Err (OffTheChip (first i))
         ]
         | false ↦ cuts_same p i
       ]
@@ -219,7 +219,7 @@ module _ {d e : Design} (z : SameDesign d e) where
   verdict_same rows =
       λ i. after_tests (test_same i) (elim (leb (rows_same i) (length rows)) as (λ _. Reply) [
         | true ↦ judged_same (from_rows rows) i
-        | false ↦ Refused TooShort
+        | false ↦ Err TooShort
       ])
 
   -- edits

@@ -1,12 +1,11 @@
 -- The checker's verdict, replies 12 to 14: rules 23 and 25 of docs/RULES.md.
-use Rattle.std.specs.Prelude.{Bool, true, false, not, ◌&&◌, ◌||◌, List, ℕ, ◌+◌, ◌*◌, ◌<◌, leb, ltb, length, get_or}
+use Rattle.std.specs.Prelude.{Bool, true, false, not, ◌&&◌, ◌||◌, List, ℕ, ◌+◌, ◌*◌, ◌<◌, leb, ltb, length, get_or, Ok, Err}
 use Rattle.rules.specs.declared.Need.{Need}
 use Rattle.rules.specs.declared.Rectangle.{Rectangle}
 use Rattle.rules.specs.declared.Design.{Design}
 use Rattle.rules.specs.declared.Direction.{Direction}
 use Rattle.rules.specs.declared.Refusal.TheVariants.{TooShort, OffTheChip, ShortOfNeed, CutNotKept}
-use Rattle.rules.specs.declared.Reply.{Reply}
-use Rattle.rules.specs.declared.Reply.TheVariants.{Done, Refused}
+use Rattle.rules.specs.Answers.{Reply}
 use Rattle.rules.specs.Search.{all, least}
 use Rattle.rules.specs.Chip.{OnChip, rectangle, right, top, holds}
 use Rattle.rules.specs.Tree.{Tree, leaf, cut, has}
@@ -60,7 +59,7 @@ kept_at m p (cut t d l r) = is_kept m d l r p
 unfoldable pub judged_cuts : Design → Placement → Reply
 judged_cuts d p =
     let t = least (λ t. not (kept_at d.modules p (node_at d t))) (nodes d) 0 in
-    elim (ltb t (nodes d)) [ true ↦ Refused (CutNotKept t) | false ↦ Done ]
+    elim (ltb t (nodes d)) [ true ↦ Err (CutNotKept t) | false ↦ (Ok tt) ]
 
 abbrev pub is_on : Design → Rectangle → Bool
 is_on d r = is_on_chip (width_of d) (height_of d) r
@@ -72,16 +71,16 @@ unfoldable pub judged_rows : Design → Placement → Reply
 judged_rows d p =
     let k = least (λ k. not (is_on d (p k) && is_suited d k (p k))) d.modules 0 in
     elim (ltb k d.modules) [
-      | true ↦ elim (is_on d (p k)) [ true ↦ Refused (ShortOfNeed k) | false ↦ Refused (OffTheChip k) ]
+      | true ↦ elim (is_on d (p k)) [ true ↦ Err (ShortOfNeed k) | false ↦ Err (OffTheChip k) ]
       | false ↦ judged_cuts d p
     ]
 
 -- the design's own tests first, then 8
 abbrev pub after_tests : Reply → Reply → Reply
-after_tests (Refused e) next = Refused e
-after_tests Done next = next
+after_tests (Err e) next = Err e
+after_tests (Ok tt) next = next
 
 unfoldable pub verdict : Design → List ℕ → Reply
 verdict d rows =
     after_tests (value_test d)
-    (elim (leb (4 * d.modules) (length rows)) [ true ↦ judged_rows d (from_rows rows) | false ↦ Refused TooShort ])
+    (elim (leb (4 * d.modules) (length rows)) [ true ↦ judged_rows d (from_rows rows) | false ↦ Err TooShort ])

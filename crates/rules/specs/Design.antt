@@ -1,5 +1,5 @@
 -- The design as a value: the limits (rule 5 of docs/RULES.md), the tree of its tokens, and its tests in file order (rule 22).
-use Rattle.std.specs.Prelude.{◌≡◌, Bool, true, false, not, ◌&&◌, List, [], ◌∷◌, ℕ, suc, ◌-◌, ◌*◌, ◌<◌, leb, eqb, length, get_or}
+use Rattle.std.specs.Prelude.{◌≡◌, Bool, true, false, not, ◌&&◌, List, [], ◌∷◌, ℕ, suc, ◌-◌, ◌*◌, ◌<◌, leb, eqb, length, get_or, Ok, Err}
 use Rattle.rules.specs.declared.Need.{Need}
 use Rattle.rules.specs.declared.Corner.{Corner}
 use Rattle.rules.specs.declared.Shape.{Shape}
@@ -8,8 +8,7 @@ use Rattle.rules.specs.declared.Chip.{Chip}
 use Rattle.rules.specs.declared.Design.{Design}
 use Rattle.rules.specs.declared.Token.{Token}
 use Rattle.rules.specs.declared.Refusal.TheVariants.{BreaksLimits, BadToken, NotOneThing}
-use Rattle.rules.specs.declared.Reply.{Reply}
-use Rattle.rules.specs.declared.Reply.TheVariants.{Done, Refused}
+use Rattle.rules.specs.Answers.{Reply}
 use Rattle.rules.specs.Search.{all}
 use Rattle.rules.specs.Chip.{corner, kind_at, Suits, SameChip}
 use Rattle.rules.specs.Tree.{Tree, Standing, refused, things, token_of, standing, last}
@@ -164,19 +163,19 @@ GoesDown d slots s p = Down (width_of d) (height_of d) (SuitsOf d) (given_for d)
 -- 5: "token over m+1, module repeated, or cut with fewer than two things standing"; 6: "tokens used up and not exactly one
 -- thing stands"
 abbrev pub tree_test : Standing → Reply
-tree_test refused = Refused (BadToken 0)
-tree_test (things []) = Refused (NotOneThing 0)
-tree_test (things (t ∷ [])) = Done
-tree_test (things (t ∷ (u ∷ ts))) = Refused (NotOneThing 0)
+tree_test refused = Err (BadToken 0)
+tree_test (things []) = Err (NotOneThing 0)
+tree_test (things (t ∷ [])) = (Ok tt)
+tree_test (things (t ∷ (u ∷ ts))) = Err (NotOneThing 0)
 
 -- Rule 22: "A design handed over as a value is tested first by the same limits and tree rules, in file order, with 4, 5 or 6 at
 -- position 0."
 unfoldable pub value_test : Design → Reply
-value_test d = elim (within_limits d) [ true ↦ tree_test (standing_of d (nodes d)) | false ↦ Refused (BreaksLimits 0) ]
+value_test d = elim (within_limits d) [ true ↦ tree_test (standing_of d (nodes d)) | false ↦ Err (BreaksLimits 0) ]
 
 -- a lawful design
 abbrev pub LawfulDesign : Design → Type 0
-LawfulDesign d = value_test d ≡ Done
+LawfulDesign d = value_test d ≡ (Ok tt)
 
 -- Rule 22: "Places beyond W, m and 2m-1 in it are ignored, also when two designs are called the same."
 pub record SameDesign (d e : Design) : Type 0 where

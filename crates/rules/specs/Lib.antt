@@ -1,4 +1,5 @@
 -- The rules (docs/RULES.md), in the words and the order of the document that they come from: what a reader has to believe.
+pub mod Answers
 pub mod Search
 pub mod Chip
 pub mod Tree

@@ -1,7 +1,6 @@
 -- The plan program, rule 26 of docs/RULES.md: its two sizes, and the text that it prints.
-use Rattle.std.specs.Prelude.{true, false, List, [], ◌∷◌, ◌++◌, ℕ, zero, suc, ◌+◌, ◌/◌, ◌%◌, ltb, replicate}
-use Rattle.rules.specs.declared.Planned.{Planned}
-use Rattle.rules.specs.declared.Planned.TheVariants.{Box, Refused}
+use Rattle.std.specs.Prelude.{true, false, List, [], ◌∷◌, ◌++◌, ℕ, zero, suc, ◌+◌, ◌/◌, ◌%◌, ltb, replicate, Ok, Err}
+use Rattle.rules.specs.Answers.{Planned}
 use Rattle.rules.specs.Choice.{row_of}
 use Rattle.rules.specs.Check.{from_rows}
 use Rattle.rules.specs.Reply.{refusal}
@@ -39,5 +38,5 @@ abbrev pub plan_line : List ℕ → List ℕ
 plan_line ns = 112 ∷ 108 ∷ 97 ∷ 110 ∷ figures ns
 
 unfoldable pub plan_text : Planned → ℕ → List ℕ → List ℕ
-plan_text (Box s) m rows = plan_line (0 ∷ s.w.0 ∷ s.h.0 ∷ []) ++ module_lines m rows
-plan_text (Refused e) m rows = plan_line ((refusal e).number ∷ (refusal e).value ∷ [])
+plan_text (Ok s) m rows = plan_line (0 ∷ s.w.0 ∷ s.h.0 ∷ []) ++ module_lines m rows
+plan_text (Err e) m rows = plan_line ((refusal e).number ∷ (refusal e).value ∷ [])

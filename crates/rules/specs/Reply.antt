@@ -1,21 +1,10 @@
 -- Numbered replies (the table of docs/RULES.md, and rule 25): the number and the values of every answer.
-use Rattle.std.specs.Prelude.{ℕ}
+use Rattle.std.specs.Prelude.{ℕ, Ok, Err}
 use Rattle.rules.specs.declared.Shape.{Shape}
 use Rattle.rules.specs.declared.Refusal.{Refusal}
 use Rattle.rules.specs.declared.Refusal.TheVariants.{Unfinished, Malformed, WrongForm, BreaksLimits, BadToken, NotOneThing, ExtraBytes, TooShort, Unreliable, NoPlacement, NoSuchEdit, OffTheChip, ShortOfNeed, CutNotKept, BadTerm, BadNet}
-use Rattle.rules.specs.declared.Reply.{Reply}
-use Rattle.rules.specs.declared.Reply.TheVariants.{Done}
-use Rattle.rules.specs.declared.Reply.TheVariants as reply
-use Rattle.rules.specs.declared.Written.{Written}
-use Rattle.rules.specs.declared.Written.TheVariants.{Bytes}
-use Rattle.rules.specs.declared.Written.TheVariants as written
-use Rattle.rules.specs.declared.Planned.{Planned}
-use Rattle.rules.specs.declared.Planned.TheVariants.{Box}
-use Rattle.rules.specs.declared.Planned.TheVariants as planned
+use Rattle.rules.specs.Answers.{Reply, Written, Planned, Scored}
 use Rattle.rules.specs.declared.Score.{Score}
-use Rattle.rules.specs.declared.Scored.{Scored}
-use Rattle.rules.specs.declared.Scored.TheVariants.{Values}
-use Rattle.rules.specs.declared.Scored.TheVariants as scored
 use Rattle.rules.specs.Chip.{shape}
 use Rattle.rules.specs.Score.{no_score}
 
@@ -49,16 +38,16 @@ refusal BadNet = plainly 16 0
 
 -- the answers of the services
 abbrev pub answer : Reply → Answer
-answer Done = plainly 0 0
-answer (reply.Refused e) = refusal e
+answer (Ok tt) = plainly 0 0
+answer (Err e) = refusal e
 
 abbrev pub written_answer : Written → Answer
-written_answer (Bytes n) = plainly 0 n
-written_answer (written.Refused e) = refusal e
+written_answer (Ok n) = plainly 0 n
+written_answer (Err e) = refusal e
 
 abbrev pub planned_answer : Planned → Answer
-planned_answer (Box s) = record { number = 0; value = 0; box = s }
-planned_answer (planned.Refused e) = refusal e
+planned_answer (Ok s) = record { number = 0; value = 0; box = s }
+planned_answer (Err e) = refusal e
 
 -- the answer of score: a numbered reply, and beside it both values ("both values 0" with a refusal)
 pub record ScoreAnswer : Type 0 where
@@ -66,5 +55,5 @@ pub record ScoreAnswer : Type 0 where
   pub values : Score
 
 abbrev pub scored_answer : Scored → ScoreAnswer
-scored_answer (Values s) = record { reply = plainly 0 0; values = s }
-scored_answer (scored.Refused e) = record { reply = refusal e; values = no_score }
+scored_answer (Ok s) = record { reply = plainly 0 0; values = s }
+scored_answer (Err e) = record { reply = refusal e; values = no_score }

@@ -134,32 +134,12 @@ pub enum Refusal {
     BadNet,
 }
 
-// The answer of list and check, and of the value test; with a design beside it, of read and edit.
-#[derive(Clone, Copy)]
-pub enum Reply {
-    Done,
-    Refused(Refusal),
-}
-
-// What read and edit hand back: the answer, and the design beside it.
+// What read and edit hand back: the answer, and the design beside it, which a refusal has too: all zeros, or unchanged.
+// stays: Reads and Edits say what design a refusal hands back, so it is no Result of a design
 #[derive(Clone, Copy)]
 pub struct Handed {
-    pub reply: Reply,
+    pub reply: Result<(), Refusal>,
     pub design: Design,
-}
-
-// The answer of write: how many bytes, or why none.
-#[derive(Clone, Copy)]
-pub enum Written {
-    Bytes(usize),
-    Refused(Refusal),
-}
-
-// The answer of plan and place: the box, or why there is none.
-#[derive(Clone, Copy)]
-pub enum Planned {
-    Box(Shape),
-    Refused(Refusal),
 }
 
 // A score: the running total, and the amount of the last term.
@@ -167,11 +147,4 @@ pub enum Planned {
 pub struct Score {
     pub total: f64,
     pub last: f64,
-}
-
-// The answer of score: both values, or why there are none.
-#[derive(Clone, Copy)]
-pub enum Scored {
-    Values(Score),
-    Refused(Refusal),
 }

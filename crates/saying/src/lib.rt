@@ -10,7 +10,7 @@ ghost use Rattle.rules.specs.Design.{LawfulDesign};
 use cellweaver::{plan, read, work_needed};
 use faults::put_fault;
 use none::put_no_placement;
-use rules::{Design, Planned, Refusal, Reply, Shape};
+use rules::{Design, Refusal, Shape};
 use telling::{put_byte, put_number, put_word};
 use typed::{is_text, is_typed};
 
@@ -41,13 +41,13 @@ fn put_too_large(out: &mut [u8], design: Design, lent: usize) -> usize
 }
 
 // What plan answers for a design that was read. Of a lawful design it refuses nothing else.
-fn put_planned(out: &mut [u8], design: Design, planned: Planned, lent: usize) -> usize
+fn put_planned(out: &mut [u8], design: Design, planned: Result<Shape, Refusal>, lent: usize) -> usize
     requires { LawfulDesign design }
     ensures { result ≤ length out.new }
 {
     match planned {
-        Planned::Box(shape) => put_box(out, shape),
-        Planned::Refused(e) => match e {
+        Ok(shape) => put_box(out, shape),
+        Err(e) => match e {
             Refusal::TooShort => put_too_large(out, design, lent),
             _ => put_no_placement(out, design),
         },
@@ -83,8 +83,8 @@ fn put_sentence(out: &mut [u8], bytes: &[u8], work: &mut [u8], rows: &mut [u8]) 
     let reply = handed.reply;
     let design = handed.design;
     match reply {
-        Reply::Refused(e) => put_refused(out, bytes, e),
-        Reply::Done => {
+        Err(e) => put_refused(out, bytes, e),
+        Ok(()) => {
             let planned = plan(design, work, rows);
             put_planned(out, design, planned, work.len())
         }

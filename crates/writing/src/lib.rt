@@ -11,9 +11,7 @@ ghost use Rattle.writing.specs.Parts.{head_bytes, byte_row, modules_bytes, desig
 
 use lawful::value_test;
 use numbers::{number_len, put_number};
-use rules::{
-    Design, MOST_COLUMNS, MOST_MODULES, MOST_ROWS, MOST_TOKENS, Need, Refusal, Reply, Written,
-};
+use rules::{Design, MOST_COLUMNS, MOST_MODULES, MOST_ROWS, MOST_TOKENS, Need, Refusal};
 
 // The number that stands first in every design's bytes.
 const FORM_NUMBER: usize = 1;
@@ -174,17 +172,17 @@ fn put_design(out: &mut [u8], d: Design)
 
 // Writes a design: one that breaks the rules is refused, then a buffer that is too short for it; otherwise its bytes are
 // put in front.
-pub fn write_design(d: Design, out: &mut [u8]) -> Written
+pub fn write_design(d: Design, out: &mut [u8]) -> Result<usize, Refusal>
     ensures { Writes d out.old result out.new }
 {
     let reply = value_test(d);
-    if let Reply::Refused(e) = reply {
-        return Written::Refused(e);
+    if let Err(e) = reply {
+        return Err(e);
     }
     let count = design_len(d);
     if out.len() < count {
-        return Written::Refused(Refusal::TooShort);
+        return Err(Refusal::TooShort);
     }
     put_design(out, d);
-    Written::Bytes(count)
+    Ok(count)
 }

@@ -1,12 +1,12 @@
 -- `checker::judge_module` meets its contract: the tests of the rectangle that was read are the tests of the module.
 -- Assumes nothing.
+use Rattle.std.specs.Prelude.{Err}
 use mathlib.Core.Path.{◌≡◌, sym, ◌∙◌}
 use mathlib.Core.Bool.{Bool, true, false}
 use Prim.Native.Nat.{ℕ}
 use native.Mathlib.Omega.{arith}
 use borrow.Author.Tests.{not-true, not-false}
 use Rattle.rules.specs.declared.Refusal.TheVariants.{OffTheChip}
-use Rattle.rules.specs.declared.Reply.TheVariants.{Refused}
 use Rattle.rules.specs.declared.Rectangle.{Rectangle}
 use Rattle.rules.specs.declared.Design.{Design}
 use Rattle.rules.specs.Placement.{Placement}
@@ -18,7 +18,7 @@ use Rattle.checker.proofs.judge_module.Goals as goal
 
 -- the reply by the tests of the rectangle that was read
 module _ (d : Design) (p : Placement) (k : ℕ) {r : Rectangle} (e : r ≡ p k) {on : Bool} (q : on ≡ is_on d r) where
-  off : on ≡ false → Refused (OffTheChip k) ≡ judged_module d p k
+  off : on ≡ false → Err (OffTheChip k) ≡ judged_module d p k
   unfolding judged_module
   off a = let x : is_on d (p k) ≡ false = rw (← e, ← q) a in rw x
 
