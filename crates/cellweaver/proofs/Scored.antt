@@ -8,9 +8,10 @@ use Rattle.rules.specs.declared.Design.{Design}
 use Rattle.rules.specs.declared.Refusal.{Refusal}
 use Rattle.rules.specs.declared.Refusal.TheVariants.{BadTerm, BadNet}
 use Rattle.rules.specs.declared.Score.{Score}
+use Rattle.rules.specs.declared.Cost.{Cost}
 use Rattle.rules.specs.Design.{Sized}
 use Rattle.rules.specs.Check.{verdict, from_rows}
-use Rattle.rules.specs.Score.{Cost, lawful_terms, lawful_nets, score_of}
+use Rattle.rules.specs.Score.{lawful_terms, lawful_nets, score_of}
 use Rattle.rules.specs.Service.{TermsLawful, NetsLawful, Scores}
 use Rattle.rules.proofs.Searching.{absurd_so}
 use Rattle.rules.proofs.Nodes.{not_both, one_refusal}

@@ -2,10 +2,8 @@
 // which the rules give the refusals.
 #![tactic(auto)]
 
-ghost use Rattle.std.specs.Prelude.{◌≡◌, ◌≤◌, length};
-ghost use Rattle.rules.specs.declared.Reply.TheVariants.{Refused};
+ghost use Rattle.std.specs.Prelude.{◌≡◌, ◌≤◌, length, Err};
 ghost use Rattle.rules.specs.Design.{LawfulDesign, nodes, slots_of};
-ghost use Rattle.rules.specs.Score.{cost};
 ghost use Rattle.rules.specs.Service.{work_of, Reads, Writes, Lists, Plans, Places, Edits, Checks, Scores};
 ghost use Rattle.slots.specs.Size.{board_of};
 ghost use Rattle.stairs.specs.Walk.{stairs_on};
@@ -16,7 +14,7 @@ use editing::{changed_node, names_place, with_change};
 use lawful::value_test;
 use listing::{list_all, list_way};
 use placing::place_lists;
-use rules::{Design, Edit, Handed, MOST_NETS, MOST_TERMS, Net, Refusal, Term};
+use rules::{Cost, Design, Edit, Handed, Refusal, Score, Shape};
 use scoring::{are_nets, are_terms, score_rows};
 use slots::board_of;
 use stairs::all_stairs;
@@ -66,10 +64,7 @@ pub fn write(design: Design, out: &mut [u8]) -> Result<usize, Refusal>
 pub fn list(design: Design, work: &mut [u8]) -> Result<(), Refusal>
     ensures { Lists design work.old result work.new }
 {
-    let reply = value_test(design);
-    if let Err(e) = reply {
-        return Err(e);
-    }
+    value_test(design)?;
     if work.len() < work_needed(design) {
         return Err(Refusal::TooShort);
     }
@@ -81,10 +76,7 @@ pub fn list(design: Design, work: &mut [u8]) -> Result<(), Refusal>
 pub fn plan(design: Design, work: &mut [u8], rows: &mut [u8]) -> Result<Shape, Refusal>
     ensures { Plans design work.old rows.old result work.new rows.new }
 {
-    let reply = value_test(design);
-    if let Err(e) = reply {
-        return Err(e);
-    }
+    value_test(design)?;
     if !enough_lent(design, work, rows) {
         return Err(Refusal::TooShort);
     }
@@ -96,10 +88,7 @@ pub fn plan(design: Design, work: &mut [u8], rows: &mut [u8]) -> Result<Shape, R
 pub fn place(design: Design, work: &[u8], rows: &mut [u8]) -> Result<Shape, Refusal>
     ensures { Places design work.now rows.old result rows.new }
 {
-    let reply = value_test(design);
-    if let Err(e) = reply {
-        return Err(e);
-    }
+    value_test(design)?;
     if !enough_lent(design, work, rows) {
         return Err(Refusal::TooShort);
     }
@@ -113,8 +102,7 @@ pub fn place(design: Design, work: &[u8], rows: &mut [u8]) -> Result<Shape, Refu
 pub fn edit(design: Design, change: Edit, work: &mut [u8]) -> Handed
     ensures { Edits design change work.old result work.new }
 {
-    let reply = value_test(design);
-    if let Err(e) = reply {
+    if let Err(e) = value_test(design) {
         return refused(design, e);
     }
     if !names_place(design, change) {
@@ -136,7 +124,7 @@ pub fn edit(design: Design, change: Edit, work: &mut [u8]) -> Handed
 
 // An edit that is refused hands the design back unchanged.
 fn refused(design: Design, e: Refusal) -> Handed
-    ensures { result ≡ record { reply = Refused e; design = design } }
+    ensures { result ≡ record { reply = Err e; design = design } }
 {
     Handed {
         reply: Err(e),
@@ -148,10 +136,7 @@ fn refused(design: Design, e: Refusal) -> Handed
 pub fn check(design: Design, rows: &[u8]) -> Result<(), Refusal>
     ensures { Checks design rows.now result }
 {
-    let reply = value_test(design);
-    if let Err(e) = reply {
-        return Err(e);
-    }
+    value_test(design)?;
     if rows.len() < 4 * design.modules {
         return Err(Refusal::TooShort);
     }
@@ -159,25 +144,15 @@ pub fn check(design: Design, rows: &[u8]) -> Result<(), Refusal>
 }
 
 // Scores a floorplan that the checker passes, by terms and nets.
-pub fn score(
-    design: Design,
-    rows: &[u8],
-    terms: [Term; MOST_TERMS],
-    term_count: usize,
-    nets: [Net; MOST_NETS],
-    net_count: usize,
-) -> Result<Score, Refusal>
-    ensures { Scores design rows.now (cost terms term_count nets net_count) result }
+pub fn score(design: Design, rows: &[u8], cost: Cost) -> Result<Score, Refusal>
+    ensures { Scores design rows.now cost result }
 {
-    let reply = check(design, rows);
-    if let Err(e) = reply {
-        return Err(e);
-    }
-    if !are_terms(terms, term_count) {
+    check(design, rows)?;
+    if !are_terms(cost) {
         return Err(Refusal::BadTerm);
     }
-    if !are_nets(design.modules, nets, net_count) {
+    if !are_nets(design.modules, cost) {
         return Err(Refusal::BadNet);
     }
-    Ok(score_rows(design, rows, terms, term_count, nets, net_count))
+    Ok(score_rows(design, rows, cost))
 }

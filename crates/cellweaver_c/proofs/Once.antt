@@ -14,9 +14,9 @@ use Rattle.rules.specs.declared.Edit.{Edit}
 use Rattle.rules.specs.declared.Refusal.{Refusal}
 use Rattle.rules.specs.Answers.{Reply}
 use Rattle.rules.specs.declared.Handed.{Handed}
+use Rattle.rules.specs.declared.Cost.{Cost}
 use Rattle.rules.specs.Edit.{names_place}
 use Rattle.rules.specs.Bytes.{Took, took, refuse, design_at}
-use Rattle.rules.specs.Score.{Cost}
 use Rattle.rules.specs.Reply.{Answer, ScoreAnswer, refusal, answer, written_answer, planned_answer, scored_answer}
 use Rattle.rules.proofs.Searching.{know}
 use Rattle.lending.specs.Lent.{lending}

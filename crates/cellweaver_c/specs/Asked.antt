@@ -10,10 +10,11 @@ use Rattle.rules.specs.declared.Refusal.{Refusal}
 use Rattle.rules.specs.declared.Refusal.TheVariants.{TooShort, NoSuchEdit}
 use Rattle.rules.specs.Answers.{Reply, Written, Planned, Scored}
 use Rattle.rules.specs.declared.Handed.{Handed}
+use Rattle.rules.specs.declared.Cost.{Cost}
 use Rattle.rules.specs.Chip.{shape}
 use Rattle.rules.specs.Edit.{names_place}
 use Rattle.rules.specs.Bytes.{took, refuse, design_bytes, design_at}
-use Rattle.rules.specs.Score.{Cost, no_score}
+use Rattle.rules.specs.Score.{no_score}
 use Rattle.rules.specs.Reply.{Answer, ScoreAnswer, plainly, refusal, answer, written_answer, planned_answer, scored_answer}
 use Rattle.rules.specs.Service.{work_of, rows_of, Reads, Writes, Lists, Plans, Places, Edits, Checks, Scores}
 use Rattle.rules.specs.Design.{width_of, height_of}

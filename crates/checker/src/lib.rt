@@ -150,10 +150,7 @@ pub fn judge_rows(d: Design, rows: &[u8]) -> Result<(), Refusal>
 {
     let modules = d.modules;
     for k in 0..modules {
-        let reply = judge_module(d, rows, k);
-        let Ok(()) = reply else {
-            return reply;
-        };
+        judge_module(d, rows, k)?;
     }
     judge_cuts(d, rows)
 }

@@ -5,8 +5,9 @@ use Rattle.std.specs.Float.{nan}
 use Rattle.rules.specs.declared.Term.{Term}
 use Rattle.rules.specs.declared.Term.TheVariants.{Area, Ratio, Wire}
 use Rattle.rules.specs.declared.Net.{Net}
+use Rattle.rules.specs.declared.Cost.{Cost}
 use Rattle.rules.specs.Design.{most_modules}
-use Rattle.rules.specs.Score.{most_terms, most_nets, Cost, cost, no_net}
+use Rattle.rules.specs.Score.{most_terms, most_nets, cost, no_net}
 
 -- what is no term: no number is its weight
 abbrev pub no_term : Term

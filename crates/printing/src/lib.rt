@@ -8,7 +8,7 @@ ghost use Rattle.printing.specs.Text.{TextLent};
 
 use replies::number_of;
 use rows::rectangle_at;
-use rules::Planned;
+use rules::{Refusal, Shape};
 
 // Bytes enough for the text of any answer.
 pub const TEXT_SIZE: usize = 2048;
@@ -63,10 +63,8 @@ fn put_figures(out: &mut [u8], at: usize, numbers: &[usize]) -> usize
     ensures { Put out.old at (figures numbers.now) result out.new }
 {
     let mut next = at;
-    let mut i = 0;
-    while i < numbers.len() {
-        next = put_figure(out, next, numbers[i]);
-        i += 1;
+    for n in numbers {
+        next = put_figure(out, next, *n);
     }
     put_byte(out, next, b'\n')
 }
@@ -99,10 +97,7 @@ fn put_plan(out: &mut [u8], numbers: &[usize]) -> usize
     requires { 6 * length numbers.now + 5 ≤ length out.old }
     ensures { Put out.old 0 (plan_line numbers.now) result out.new }
 {
-    out[0] = b'p';
-    out[1] = b'l';
-    out[2] = b'a';
-    out[3] = b'n';
+    out[..4].copy_from_slice(b"plan");
     put_figures(out, 4, numbers)
 }
 

@@ -13,11 +13,11 @@ use Rattle.rules.specs.declared.Edit.{Edit}
 use Rattle.rules.specs.declared.Refusal.{Refusal}
 use Rattle.rules.specs.Answers.{Reply, Written, Planned, Scored}
 use Rattle.rules.specs.declared.Handed.{Handed}
+use Rattle.rules.specs.declared.Cost.{Cost}
 use Rattle.rules.specs.Design.{slots_of, LawfulDesign}
 use Rattle.rules.specs.Edit.{names_place, changed}
 use Rattle.rules.specs.Bytes.{Took, took, refuse, design_bytes, design_at}
 use Rattle.rules.specs.Check.{from_rows, verdict}
-use Rattle.rules.specs.Score.{Cost}
 use Rattle.rules.specs.Reply.{Answer, refusal, answer, written_answer, planned_answer, scored_answer}
 use Rattle.rules.specs.Service.{Reads, Writes, Lists, Plans, Places, Edits, Checks, Scores, Enough, work_of, rows_of, handed, zeros}
 use Rattle.rules.proofs.Reading.{read_lawful}

@@ -11,6 +11,7 @@ use Rattle.rules.specs.declared.Shape.{Shape}
 use Rattle.rules.specs.declared.Design.{Design}
 use Rattle.rules.specs.declared.Edit.{Edit}
 use Rattle.rules.specs.declared.Refusal.{Refusal}
+use Rattle.rules.specs.declared.Cost.{Cost}
 use Rattle.rules.specs.Answers.{Reply}
 use Rattle.rules.specs.Placement.{Placement}
 use Rattle.rules.specs.Slot.{Empty}
@@ -18,7 +19,7 @@ use Rattle.rules.specs.Choice.{Chosen}
 use Rattle.rules.specs.Design.{value_test, LawfulDesign, nodes, slot_rows, slots_of, AllStairs, root_slot, GoesDown, width_of, height_of}
 use Rattle.rules.specs.Edit.{names_place}
 use Rattle.rules.specs.Check.{verdict}
-use Rattle.rules.specs.Score.{Cost, lawful_terms, lawful_nets}
+use Rattle.rules.specs.Score.{lawful_terms, lawful_nets}
 use Rattle.rules.specs.Service.{Enough, work_of, rows_of, TermsLawful, NetsLawful}
 use Rattle.rules.proofs.Test.{goes_for}
 use Rattle.rules.proofs.Searching.{before_or_not, know}

@@ -16,6 +16,7 @@ use Rattle.rules.specs.declared.Term.{Term}
 use Rattle.rules.specs.declared.Term.TheVariants.{Area, Ratio, Wire}
 use Rattle.rules.specs.declared.Net.{Net}
 use Rattle.rules.specs.declared.Score.{Score}
+use Rattle.rules.specs.declared.Cost.{Cost}
 use Rattle.rules.specs.Answers.{Reply, Planned, Scored}
 use Rattle.rules.specs.Search.{all, least, count, total}
 use Rattle.rules.specs.Chip.{OnChip, shape, column, column_of, covers_block, held_between, holds}
@@ -24,7 +25,7 @@ use Rattle.rules.specs.Placement.{furthest}
 use Rattle.rules.specs.Design.{value_test, within_limits, lawful_chip, in_range, lawful_need, slot_rows}
 use Rattle.rules.specs.Bytes.{padded}
 use Rattle.rules.specs.Check.{from_rows, is_on_chip, is_at_most, is_kept, judged_cuts, judged_rows, verdict}
-use Rattle.rules.specs.Score.{NamedAlike, Names, Cost, cost, no_net, no_score, lawful_weight, lawful_terms, lawful_net, lawful_nets, area_of, ratio_of, greatest_to, least_to, spread, wire_of, score_after, score_of}
+use Rattle.rules.specs.Score.{NamedAlike, Names, cost, no_net, no_score, lawful_weight, lawful_terms, lawful_net, lawful_nets, area_of, ratio_of, greatest_to, least_to, spread, wire_of, score_after, score_of}
 use Rattle.rules.specs.Reply.{Answer, ScoreAnswer, plainly, answer, planned_answer, scored_answer}
 use Rattle.rules.specs.Service.{Enough, TermsLawful, NetsLawful}
 use Rattle.rules.specs.Bench.{D}

@@ -13,11 +13,12 @@ use Rattle.rules.specs.declared.Design.{Design}
 use Rattle.rules.specs.declared.Edit.{Edit}
 use Rattle.rules.specs.Answers.{Reply, Written, Planned, Scored}
 use Rattle.rules.specs.declared.Handed.{Handed}
+use Rattle.rules.specs.declared.Cost.{Cost}
 use Rattle.rules.specs.Design.{Sized, LawfulDesign, SameDesign}
 use Rattle.rules.specs.Edit.{names_place, changed}
 use Rattle.rules.specs.Bytes.{design_bytes}
 use Rattle.rules.specs.Check.{from_rows}
-use Rattle.rules.specs.Score.{Cost, SameCost}
+use Rattle.rules.specs.Score.{SameCost}
 use Rattle.rules.specs.Service.{Writes, Lists, Plans, Places, Edits, Checks, Scores, Enough}
 use Rattle.rules.proofs.Same.{same_sym, work_same, rows_same, test_same, lawful_same, bytes_same, verdict_same, names_same, changed_same, same_iff_bytes}
 use Rattle.rules.proofs.Carrying.{work_stairs, work_own, work_empty, work_chosen, work_down, edited_same}

@@ -12,11 +12,12 @@ use lib.Dec.{lit≤}
 use lib.ListN.{length, length-append}
 use lib.Ieee.{Float, nan, inf, fin}
 use Rattle.rules.specs.declared.Design.{Design}
+use Rattle.rules.specs.declared.Cost.{Cost}
 use Rattle.rules.specs.declared.Term.TheVariants.{Area}
 use Rattle.rules.specs.Answers.{Reply, Planned, Scored}
 use Rattle.rules.specs.Placement.{Placement, area}
 use Rattle.rules.specs.Design.{slots_of}
-use Rattle.rules.specs.Score.{NamedAlike, Cost, exact, no_score, term_at, area_of, amount_of, score_after, score_of}
+use Rattle.rules.specs.Score.{NamedAlike, exact, no_score, term_at, area_of, amount_of, score_after, score_of}
 use Rattle.rules.specs.Check.{from_rows, verdict}
 use Rattle.rules.specs.Reply.{answer, planned_answer, scored_answer}
 use Rattle.rules.specs.Service.{Plans, Checks, Scores, Enough, rows_of, TermsLawful, NetsLawful}

@@ -9,10 +9,10 @@ use Rattle.rules.specs.declared.Design.{Design}
 use Rattle.rules.specs.declared.Edit.{Edit}
 use Rattle.rules.specs.Answers.{Reply, Written, Planned, Scored}
 use Rattle.rules.specs.declared.Handed.{Handed}
+use Rattle.rules.specs.declared.Cost.{Cost}
 use Rattle.rules.specs.Design.{node_at, nodes, root, ListsOf, slot_rows, slots_of, width_of, height_of}
 use Rattle.rules.specs.Edit.{changed, changed_node}
 use Rattle.rules.specs.Bytes.{design_bytes}
-use Rattle.rules.specs.Score.{Cost}
 use Rattle.rules.specs.Service.{Reads, Writes, Lists, Plans, Places, Edits, Checks, Scores, Enough, work_of, rows_of}
 use Rattle.rules.proofs.Standing.{node_position}
 use Rattle.rules.proofs.Nodes.{node_at_lem, node_part, part_node}

@@ -10,6 +10,7 @@ use Rattle.rules.specs.declared.Edit.{Edit}
 use Rattle.rules.specs.declared.Refusal.TheVariants.{Unfinished, Malformed, WrongForm, BreaksLimits, BadToken, ExtraBytes}
 use Rattle.rules.specs.Answers.{Reply, Written, Planned, Scored}
 use Rattle.rules.specs.declared.Handed.{Handed}
+use Rattle.rules.specs.declared.Cost.{Cost}
 use Rattle.rules.specs.Tree.{refused}
 use Rattle.rules.specs.Placement.{Placement}
 use Rattle.rules.specs.Slot.{PastKept}
@@ -17,7 +18,7 @@ use Rattle.rules.specs.Design.{within_limits, standing_of, nodes, LawfulDesign, 
 use Rattle.rules.specs.Edit.{names_place}
 use Rattle.rules.specs.Bytes.{took, refuse, design_bytes, design_at}
 use Rattle.rules.specs.Check.{from_rows, FirstOff, FirstShort, FirstNotKept}
-use Rattle.rules.specs.Score.{Cost, no_score, score_of}
+use Rattle.rules.specs.Score.{no_score, score_of}
 use Rattle.rules.specs.Reply.{Answer, ScoreAnswer, plainly, answer, written_answer, planned_answer, scored_answer}
 use Rattle.rules.specs.Service.{Enough, work_of, rows_of, zeros, TermsLawful, NetsLawful}
 use Rattle.promises.specs.Services.{Services}

@@ -6,8 +6,9 @@ use Rattle.rules.specs.declared.Design.{Design}
 use Rattle.rules.specs.declared.Edit.{Edit}
 use Rattle.rules.specs.Answers.{Reply, Written, Planned, Scored}
 use Rattle.rules.specs.declared.Handed.{Handed}
+use Rattle.rules.specs.declared.Cost.{Cost}
 use Rattle.rules.specs.Design.{SameDesign}
-use Rattle.rules.specs.Score.{Cost, SameCost}
+use Rattle.rules.specs.Score.{SameCost}
 use Rattle.promises.specs.Services.{Services}
 
 pub record SameTreatment (S : Services) : Type 0 where

@@ -5,9 +5,10 @@ use Rattle.std.specs.Float.{fin}
 use Rattle.rules.specs.declared.Design.{Design}
 use Rattle.rules.specs.declared.Term.TheVariants.{Area}
 use Rattle.rules.specs.declared.Score.{Score}
+use Rattle.rules.specs.declared.Cost.{Cost}
 use Rattle.rules.specs.Answers.{Reply, Planned, Scored}
 use Rattle.rules.specs.Placement.{area}
-use Rattle.rules.specs.Score.{Cost, exact, no_score, term_at, NamedAlike}
+use Rattle.rules.specs.Score.{exact, no_score, term_at, NamedAlike}
 use Rattle.rules.specs.Reply.{answer, planned_answer, scored_answer}
 use Rattle.rules.specs.Service.{Enough, TermsLawful, NetsLawful}
 use Rattle.promises.specs.Services.{Services}

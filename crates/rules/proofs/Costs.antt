@@ -14,12 +14,13 @@ use Rattle.rules.specs.declared.Direction.TheVariants.{Vertical, Horizontal}
 use Rattle.rules.specs.declared.Term.{Term}
 use Rattle.rules.specs.declared.Term.TheVariants.{Area, Ratio, Wire}
 use Rattle.rules.specs.declared.Net.{Net}
+use Rattle.rules.specs.declared.Cost.{Cost}
 use Rattle.rules.specs.Answers.{Scored}
 use Rattle.rules.specs.Placement.{Placement}
 use Rattle.rules.specs.Design.{SameDesign}
 use Rattle.rules.specs.Check.{from_rows}
 use Rattle.rules.specs.Service.{Scores}
-use Rattle.rules.specs.Score.{Names, NamedAlike, Cost, term_at, net_at, member_at, weight_of, lawful_weight, lawful_terms, lawful_net, lawful_nets, area_of, greatest_to, least_to, centres_of, spread, half_perimeter, wire_of, amount_of, score_after, score_of, SameNet, SameCost}
+use Rattle.rules.specs.Score.{Names, NamedAlike, term_at, net_at, member_at, weight_of, lawful_weight, lawful_terms, lawful_net, lawful_nets, area_of, greatest_to, least_to, centres_of, spread, half_perimeter, wire_of, amount_of, score_after, score_of, SameNet, SameCost}
 use Rattle.rules.proofs.Below.{all_below}
 use Rattle.rules.proofs.Same.{same_refl, root_same}
 use Rattle.rules.proofs.Greatest.{greatest_most, least_most, greatest_in, least_in}

@@ -13,10 +13,11 @@ use Rattle.rules.specs.declared.Direction.TheVariants.{Vertical, Horizontal}
 use Rattle.rules.specs.declared.Term.{Term}
 use Rattle.rules.specs.declared.Term.TheVariants.{Area, Ratio, Wire}
 use Rattle.rules.specs.declared.Net.{Net}
+use Rattle.rules.specs.declared.Cost.{Cost}
 use Rattle.rules.specs.Chip.{OnChip, right, top}
 use Rattle.rules.specs.Placement.{Placement}
 use Rattle.rules.specs.Design.{most_columns, most_rows, most_modules, in_range, root, width_of, height_of, LawfulDesign}
-use Rattle.rules.specs.Score.{plus, times, over, exact, most_terms, most_nets, most_weight, Cost, term_at, net_at, member_at, weight_of, lawful_weight, lawful_terms, lawful_net, lawful_nets, area_of, ratio_of, centres_of, spread, half_perimeter, wire_of, amount_of, score_after, score_of}
+use Rattle.rules.specs.Score.{plus, times, over, exact, most_terms, most_nets, most_weight, term_at, net_at, member_at, weight_of, lawful_weight, lawful_terms, lawful_net, lawful_nets, area_of, ratio_of, centres_of, spread, half_perimeter, wire_of, amount_of, score_after, score_of}
 use Rattle.rules.proofs.Searching.{test-iffs, all_iff}
 use Rattle.rules.proofs.Placing.{furthest_within}
 use Rattle.rules.proofs.Nodes.{lawful_tree}

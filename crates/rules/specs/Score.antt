@@ -9,6 +9,7 @@ use Rattle.rules.specs.declared.Direction.TheVariants.{Vertical, Horizontal}
 use Rattle.rules.specs.declared.Term.{Term}
 use Rattle.rules.specs.declared.Term.TheVariants.{Area, Ratio, Wire}
 use Rattle.rules.specs.declared.Net.{Net}
+use Rattle.rules.specs.declared.Cost.{Cost}
 use Rattle.rules.specs.declared.Score.{Score}
 use Rattle.rules.specs.Search.{all}
 use Rattle.rules.specs.Chip.{left, bottom}
@@ -40,13 +41,7 @@ most_nets = 32
 abbrev pub most_weight : ℕ
 most_weight = 1000000
 
--- What a score is asked with: terms and nets in their places, and how many of each. Places past a count are ignored.
-pub record Cost : Type 0 where
-  pub terms : List Term
-  pub term_count : ℕ
-  pub nets : List Net
-  pub net_count : ℕ
-
+-- what a score is asked with; places past a count are ignored
 abbrev pub cost : List Term → ℕ → List Net → ℕ → Cost
 cost terms n nets k = record { terms = terms; term_count = n; nets = nets; net_count = k }
 

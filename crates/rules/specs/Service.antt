@@ -9,6 +9,7 @@ use Rattle.rules.specs.declared.Refusal.{Refusal}
 use Rattle.rules.specs.declared.Refusal.TheVariants.{TooShort, Unreliable, NoPlacement, NoSuchEdit, BadTerm, BadNet}
 use Rattle.rules.specs.Answers.{Reply, Written, Planned, Scored}
 use Rattle.rules.specs.declared.Handed.{Handed}
+use Rattle.rules.specs.declared.Cost.{Cost}
 use Rattle.rules.specs.Placement.{Placement}
 use Rattle.rules.specs.Slot.{work_needed, PastKept}
 use Rattle.rules.specs.Choice.{rows_out}
@@ -16,7 +17,7 @@ use Rattle.rules.specs.Design.{Sized, nodes, value_test, LawfulDesign, slots_of,
 use Rattle.rules.specs.Edit.{names_place, changed, EditedLists}
 use Rattle.rules.specs.Bytes.{Took, took, refuse, design_bytes, design_at, chip_from, design_from}
 use Rattle.rules.specs.Check.{from_rows, verdict}
-use Rattle.rules.specs.Score.{Cost, lawful_terms, lawful_nets, score_of}
+use Rattle.rules.specs.Score.{lawful_terms, lawful_nets, score_of}
 
 -- read, rule 21. "The design that a refused reading hands back is all zeros."
 unfoldable pub zeros : Design

@@ -112,6 +112,15 @@ pub struct Net {
     pub modules: [u8; MOST_MODULES],
 }
 
+// What a score is asked with: terms and nets in their places, and how many of each. Places past a count are ignored.
+#[derive(Clone, Copy)]
+pub struct Cost {
+    pub terms: [Term; MOST_TERMS],
+    pub term_count: usize,
+    pub nets: [Net; MOST_NETS],
+    pub net_count: usize,
+}
+
 // Every refusal, in the order of the numbers 1 to 16. It holds a position among the bytes (1 to 7), a module (12, 13)
 // or a token's position (14), where there is one.
 #[derive(Clone, Copy)]

@@ -3,3 +3,4 @@ pub mod Literals
 pub mod Listed
 pub mod Extents
 pub mod Sums
+pub mod Front

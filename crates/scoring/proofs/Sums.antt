@@ -9,9 +9,10 @@ use Rattle.rules.specs.declared.Net.{Net}
 use Rattle.rules.specs.declared.Rectangle.{Rectangle}
 use Rattle.rules.specs.declared.Score.{Score}
 use Rattle.rules.specs.declared.Term.{Term}
+use Rattle.rules.specs.declared.Cost.{Cost}
 use Rattle.rules.specs.declared.Term.TheVariants.{Area, Ratio, Wire}
 use Rattle.rules.specs.Placement.{Placement}
-use Rattle.rules.specs.Score.{exact, ratio_more, ratio_of, half_perimeter, wire_of, net_at, Cost, term_at, weight_of, amount_of, with_term, score_after, score_of}
+use Rattle.rules.specs.Score.{exact, ratio_more, ratio_of, half_perimeter, wire_of, net_at, term_at, weight_of, amount_of, with_term, score_after, score_of}
 use Rattle.scoring.specs.declared.amounts.Amounts.{Amounts}
 use Rattle.scoring.specs.Amounts.{amounts_of, after_term, after_terms}
 use Rattle.rules.proofs.Floats.{zero_is}

@@ -7,11 +7,12 @@ use Rattle.rules.specs.declared.Direction.TheVariants.{Vertical, Horizontal}
 use Rattle.rules.specs.declared.Net.{Net}
 use Rattle.rules.specs.declared.Score.{Score}
 use Rattle.rules.specs.declared.Term.{Term}
+use Rattle.rules.specs.declared.Cost.{Cost}
 use Rattle.rules.specs.declared.Term.TheVariants.{Area, Ratio, Wire}
 use Rattle.rules.specs.Placement.{Placement}
 use Rattle.rules.specs.Design.{LawfulDesign}
 use Rattle.rules.specs.Service.{rows_of}
-use Rattle.rules.specs.Score.{Cost, most_terms, lawful_nets, exact, area_of, ratio_of, wire_of, centre, member_at, term_at, no_score, with_term}
+use Rattle.rules.specs.Score.{most_terms, lawful_nets, exact, area_of, ratio_of, wire_of, centre, member_at, term_at, no_score, with_term}
 use Rattle.extents.specs.declared.Extent.{Extent}
 use Rattle.extents.specs.Sides.{extent, extent_of, together}
 use Rattle.scoring.specs.declared.amounts.Amounts.{Amounts}

@@ -10,7 +10,7 @@ ghost use Rattle.scoring.specs.Amounts.{Near, most_centre, point_of, modules_to,
 
 use extents::{Extent, extent_of, together};
 use rows::rectangle_at;
-use rules::{Columns, Corner, Design, MOST_NETS, Net, Rectangle, Rows, Shape};
+use rules::{Columns, Corner, Cost, Design, Net, Rectangle, Rows, Shape};
 
 // What each kind of term counts, without its weight.
 #[derive(Clone, Copy)]
@@ -109,10 +109,9 @@ fn members_extent(rows: &[u8], modules: usize, net: Net) -> Extent
     requires { So (lawful_net modules net) × (4 * modules ≤ length rows.now) }
     ensures { (result ≡ members_to (net.count - 1) (from_rows rows.now) net) × Near result }
 {
-    let members = net.modules;
-    let mut extent = module_point(rows, members[0] as usize);
-    for j in 1..net.count {
-        extent = together(extent, module_point(rows, members[j] as usize));
+    let mut extent = module_point(rows, net.modules[0] as usize);
+    for member in &net.modules[1..net.count] {
+        extent = together(extent, module_point(rows, *member as usize));
     }
     extent
 }
@@ -129,26 +128,25 @@ fn half_perimeter(rows: &[u8], modules: usize, net: Net) -> usize
 }
 
 // The sum over all nets.
-fn wire_of(rows: &[u8], modules: usize, nets: [Net; MOST_NETS], count: usize) -> usize
-    requires { So (lawful_nets modules nets count) × (4 * modules ≤ length rows.now) }
-    ensures { (result ≡ wire_of (from_rows rows.now) nets count) × (result ≤ most_nets * (2 * most_centre)) }
+fn wire_of(rows: &[u8], modules: usize, cost: Cost) -> usize
+    requires { So (lawful_nets modules cost.nets cost.net_count) × (4 * modules ≤ length rows.now) }
+    ensures { (result ≡ wire_of (from_rows rows.now) cost.nets cost.net_count) × (result ≤ most_nets * (2 * most_centre)) }
 {
     let mut sum = 0;
-    for i in 0..count {
-        let net = nets[i];
-        sum += half_perimeter(rows, modules, net);
+    for net in &cost.nets[..cost.net_count] {
+        sum += half_perimeter(rows, modules, *net);
     }
     sum
 }
 
 // All three.
-pub fn amounts_of(design: Design, rows: &[u8], nets: [Net; MOST_NETS], count: usize) -> Amounts
-    requires { Countable design rows.now nets count }
-    ensures { result ≡ amounts_of design (from_rows rows.now) nets count }
+pub fn amounts_of(design: Design, rows: &[u8], cost: Cost) -> Amounts
+    requires { Countable design rows.now cost.nets cost.net_count }
+    ensures { result ≡ amounts_of design (from_rows rows.now) cost.nets cost.net_count }
 {
     Amounts {
         area: exact_of(area_of(design, rows)),
         ratio: ratio_of(rows, design.modules),
-        wire: exact_of(wire_of(rows, design.modules, nets, count)),
+        wire: exact_of(wire_of(rows, design.modules, cost)),
     }
 }

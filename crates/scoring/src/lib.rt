@@ -7,12 +7,12 @@ mod terms;
 
 ghost use Rattle.std.specs.Prelude.{◌≡◌, ◌≤◌};
 ghost use Rattle.rules.specs.Check.{from_rows};
-ghost use Rattle.rules.specs.Score.{most_terms, cost, with_term, score_of};
+ghost use Rattle.rules.specs.Score.{most_terms, with_term, score_of};
 ghost use Rattle.scoring.specs.Amounts.{after_term, after_terms, Ready};
 
 use amounts::{Amounts, amounts_of};
 pub use nets::are_nets;
-use rules::{Design, MOST_NETS, MOST_TERMS, Net, Score, Term};
+use rules::{Cost, Design, Score, Term};
 pub use terms::are_terms;
 
 // The score with an amount more.
@@ -36,34 +36,25 @@ fn after_term(score: Score, amounts: Amounts, term: Term) -> Score
     }
 }
 
-// The score of the first `count` terms, in list order.
-fn score_terms(amounts: Amounts, terms: [Term; MOST_TERMS], count: usize) -> Score
-    requires { count ≤ most_terms }
-    ensures { result ≡ after_terms amounts terms count }
+// The score of the terms, in list order.
+fn score_terms(amounts: Amounts, cost: Cost) -> Score
+    requires { cost.term_count ≤ most_terms }
+    ensures { result ≡ after_terms amounts cost.terms cost.term_count }
 {
     let mut score = Score {
         total: 0.0,
         last: 0.0,
     };
-    for i in 0..count {
-        let term = terms[i];
-        score = after_term(score, amounts, term);
+    for term in &cost.terms[..cost.term_count] {
+        score = after_term(score, amounts, *term);
     }
     score
 }
 
 // The score of a floorplan in rows.
-pub fn score_rows(
-    design: Design,
-    rows: &[u8],
-    terms: [Term; MOST_TERMS],
-    term_count: usize,
-    nets: [Net; MOST_NETS],
-    net_count: usize,
-) -> Score
-    requires { Ready design rows.now (cost terms term_count nets net_count) }
-    ensures { result ≡ score_of design (from_rows rows.now) (cost terms term_count nets net_count) }
+pub fn score_rows(design: Design, rows: &[u8], cost: Cost) -> Score
+    requires { Ready design rows.now cost }
+    ensures { result ≡ score_of design (from_rows rows.now) cost }
 {
-    let amounts = amounts_of(design, rows, nets, net_count);
-    score_terms(amounts, terms, term_count)
+    score_terms(amounts_of(design, rows, cost), cost)
 }

@@ -2,38 +2,35 @@
 ghost use Rattle.std.specs.Prelude.{◌≡◌};
 ghost use Rattle.rules.specs.Score.{lawful_net, lawful_nets};
 
-use rules::{MOST_MODULES, MOST_NETS, Net};
+use rules::{Cost, MOST_MODULES, MOST_NETS, Net};
 
 // A net that names some modules, and none that is missing.
 fn is_net(modules: usize, net: Net) -> bool
     ensures { result ≡ lawful_net modules net }
 {
-    let count = net.count;
-    if count < 1 {
+    if net.count < 1 {
         return false;
     }
-    if MOST_MODULES < count {
+    if MOST_MODULES < net.count {
         return false;
     }
-    let members = net.modules;
-    for j in 0..count {
-        if modules <= members[j] as usize {
+    for member in &net.modules[..net.count] {
+        if modules <= *member as usize {
             return false;
         }
     }
     true
 }
 
-// The first `count` nets are there and lawful.
-pub fn are_nets(modules: usize, nets: [Net; MOST_NETS], count: usize) -> bool
-    ensures { result ≡ lawful_nets modules nets count }
+// The nets are no more than there may be, and lawful.
+pub fn are_nets(modules: usize, cost: Cost) -> bool
+    ensures { result ≡ lawful_nets modules cost.nets cost.net_count }
 {
-    if MOST_NETS < count {
+    if MOST_NETS < cost.net_count {
         return false;
     }
-    for i in 0..count {
-        let net = nets[i];
-        if !is_net(modules, net) {
+    for net in &cost.nets[..cost.net_count] {
+        if !is_net(modules, *net) {
             return false;
         }
     }

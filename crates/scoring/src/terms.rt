@@ -2,16 +2,13 @@
 ghost use Rattle.std.specs.Prelude.{◌≡◌};
 ghost use Rattle.rules.specs.Score.{lawful_weight, lawful_terms, weight_of};
 
-use rules::{MOST_TERMS, Term};
+use rules::{Cost, MOST_TERMS, Term};
 
 // A weight from 0 to 1,000,000. What is no number passes no comparison.
 fn is_weight(w: f64) -> bool
     ensures { result ≡ lawful_weight w }
 {
-    if 0.0 <= w {
-        return w <= 1000000.0;
-    }
-    false
+    0.0 <= w && w <= 1000000.0
 }
 
 // A term's weight.
@@ -25,16 +22,15 @@ fn weight_of(term: Term) -> f64
     }
 }
 
-// The first `count` terms are there and lawful.
-pub fn are_terms(terms: [Term; MOST_TERMS], count: usize) -> bool
-    ensures { result ≡ lawful_terms terms count }
+// The terms are no more than there may be, and lawful.
+pub fn are_terms(cost: Cost) -> bool
+    ensures { result ≡ lawful_terms cost.terms cost.term_count }
 {
-    if MOST_TERMS < count {
+    if MOST_TERMS < cost.term_count {
         return false;
     }
-    for i in 0..count {
-        let term = terms[i];
-        if !is_weight(weight_of(term)) {
+    for term in &cost.terms[..cost.term_count] {
+        if !is_weight(weight_of(*term)) {
             return false;
         }
     }

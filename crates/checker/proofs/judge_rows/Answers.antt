@@ -1,27 +1,18 @@
 -- `checker::judge_rows` meets its contract. The modules before k are fine; the first that is not decides, and otherwise the cuts do.
 -- Assumes nothing.
 use mathlib.Core.Path.{sym, ◌∙◌}
-use Rattle.checker.proofs.FirstFault.{none_searched, module_fine, module_refused, modules_fine}
+use Rattle.std.proofs.lemmas.Result.{err_from_is_err_and}
+use Rattle.checker.proofs.FirstFault.{module_fine, module_refused, modules_fine}
 use Rattle.checker.proofs.judge_rows.Goals as goal
 
-pub loop-k-init : goal.loop-k-init
-loop-k-init c = none_searched
-
-pub judge_module-reply-requires : goal.judge_module-reply-requires
-judge_module-reply-requires c = let p = c.requires in (p.0, c.loop-k-test.true, p.1)
-
-pub returns-in_default : goal.returns-in_default
-returns-in_default c =
-    let e = c.in_default.is in let b = c in let l = b in
-    e ∙ sym (module_refused _ _ l.loop-k-test.true (sym b.judge_module-reply.ensures ∙ e) l.loop-k.invariant)
+pub returns-in_err-judge_module : goal.returns-in_err-judge_module
+returns-in_err-judge_module c =
+    let p = err_from_is_err_and c.from_residual.result c.from_residual.ensures.1 in
+    let e = sym c.judge_module.ensures ∙ c.in_err-judge_module.was in
+    rw (p.1, p.2) (sym (module_refused _ _ c.loop-k-test.true e c.loop-k.invariant))
 
 pub loop-k-preserved : goal.loop-k-preserved
-loop-k-preserved c =
-    let e = c.in-Done.is in let b = c in let l = b in
-    module_fine _ _ l.loop-k-test.true (sym b.judge_module-reply.ensures ∙ e) l.loop-k.invariant
-
-pub judge_cuts-requires : goal.judge_cuts-requires
-judge_cuts-requires c = c.requires
+loop-k-preserved c = module_fine _ _ c.loop-k-test.true (sym c.judge_module.ensures ∙ c.in_ok-judge_module.was) c.loop-k.invariant
 
 pub returns : goal.returns
 returns c = c.judge_cuts.ensures ∙ sym (modules_fine _ _ c.loop-k-test.false c.loop-k.invariant)

@@ -11,16 +11,16 @@ pub put_modules-requires : goal.put_modules-requires
 put_modules-requires c =
     let put = c.put_plan-next.ensures in (omega (arith, same_long put, plan_end _ put), search rules)
 
-pub returns-in-Box : goal.returns-in-Box
+pub returns-in-Ok : goal.returns-in-Ok
 unfolding plan_text
-returns-in-Box c =
+returns-in-Ok c =
     let first = c in
-    rw (first.in-Box.is, plan_text)
+    rw (first.in-Ok.is, plan_text)
     (both_put first.put_plan-next.ensures c.put_modules.ensures)
 
-pub returns-in-Refused : goal.returns-in-Refused
+pub returns-in-Err : goal.returns-in-Err
 unfolding plan_text
-returns-in-Refused c =
+returns-in-Err c =
     let told = c in let said = told.number_of-said.ensures in
-    rw (told.in-Refused.is, plan_text, ← said.0, ← said.1)
+    rw (told.in-Err.is, plan_text, ← said.0, ← said.1)
     c.put_plan.ensures

@@ -7,20 +7,20 @@ use Rattle.putting.proofs.Putting.{same_long}
 use Rattle.printing.proofs.Putting.{figure_end, figure_put, newline_put}
 use Rattle.printing.proofs.put_figures.Goals as goal
 
-pub loop-i-init : goal.loop-i-init
-loop-i-init c = (search rules, refl, search rules, λ r after p. p)
+pub loop-n-init : goal.loop-n-init
+loop-n-init c = (search rules, refl, search rules, λ r after p. p)
 
-pub loop-i-preserved : goal.loop-i-preserved
-loop-i-preserved c =
+pub loop-n-preserved : goal.loop-n-preserved
+loop-n-preserved c =
     let put = c.put_figure-next.ensures in
-    let turn = c in let now = turn.loop-i in (
+    let turn = c in let now = turn.loop-n in (
       search rules,
       same_long put ∙ now.invariant.1,
       omega (arith, same_long put, figure_end _ put),
-      λ r after p. now.invariant.3 r after (figure_put _ now.i turn.loop-i-test.true put p),
+      λ r after p. now.invariant.3 r after (figure_put _ now.n-index turn.loop-n-test.true put p),
     )
 
 pub returns : goal.returns
 returns c =
     let left = c in
-    left.loop-i.invariant.3 _ _ (newline_put _ _ left.loop-i-test.false c.put_byte.ensures)
+    left.loop-n.invariant.3 _ _ (newline_put _ _ left.loop-n-test.false c.put_byte.ensures)

@@ -8,10 +8,7 @@ use Rattle.rules.specs.Program.{figures}
 use Rattle.putting.specs.Put.{Put}
 use Rattle.printing.proofs.put_figures.Given as goal
 
-abbrev pub invariant-loop-i : goal.invariant-loop-i
-invariant-loop-i l =
-    (l.i ≤ length l.numbers) × (length l.out ≡ length l.initial.out) × (l.next + 6 * (length l.numbers - l.i) + 1 ≤ length l.out)
-    × ((r : ℕ) (after : List ℕ) → Put l.out l.next (figures (drop l.i l.numbers)) r after → Put l.initial.out l.at (figures l.numbers) r after)
-
-abbrev pub decreases-loop-i : goal.decreases-loop-i
-decreases-loop-i l = length l.numbers - l.i
+abbrev pub invariant-loop-n : goal.invariant-loop-n
+invariant-loop-n l =
+    (l.n-index ≤ length l.numbers) × (length l.out ≡ length l.initial.out) × (l.next + 6 * (length l.numbers - l.n-index) + 1 ≤ length l.out)
+    × ((r : ℕ) (after : List ℕ) → Put l.out l.next (figures (drop l.n-index l.numbers)) r after → Put l.initial.out l.at (figures l.numbers) r after)

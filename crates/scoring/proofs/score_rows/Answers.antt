@@ -5,4 +5,4 @@ use Rattle.scoring.proofs.Sums.{score_by}
 use Rattle.scoring.proofs.score_rows.Goals as goal
 
 pub returns : goal.returns
-returns c = score_by _ _ (cost _ _ _ _) _ _ c.amounts_of-amounts.ensures c.score_terms.ensures
+returns c = score_by _ _ (cost _ _ _ _) _ _ c.amounts_of.ensures c.score_terms.ensures

@@ -5,5 +5,5 @@ use Prim.Native.Nat.{◌≤◌}
 use Rattle.scoring.specs.Amounts.{after_terms}
 use Rattle.scoring.proofs.score_terms.Given as goal
 
-abbrev pub invariant-loop-i : goal.invariant-loop-i
-invariant-loop-i l = (l.i ≤ l.count) × (l.score ≡ after_terms l.amounts l.terms l.i)
+abbrev pub invariant-loop-term : goal.invariant-loop-term
+invariant-loop-term l = (l.term-index ≤ l.fn.cost.term_count) × (l.score ≡ after_terms l.amounts l.fn.cost.terms l.term-index)

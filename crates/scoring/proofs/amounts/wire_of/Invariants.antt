@@ -7,6 +7,6 @@ use Rattle.rules.specs.Score.{most_nets, wire_of}
 use Rattle.scoring.specs.Amounts.{most_centre}
 use Rattle.scoring.proofs.amounts.wire_of.Given as goal
 
-abbrev pub invariant-loop-i : goal.invariant-loop-i
-invariant-loop-i l =
-    (l.i ≤ l.count) × (l.count ≤ most_nets) × (l.sum ≡ wire_of (from_rows l.rows) l.nets l.i) × (l.sum ≤ l.i * (2 * most_centre))
+abbrev pub invariant-loop-net : goal.invariant-loop-net
+invariant-loop-net l =
+    (l.net-index ≤ l.fn.cost.net_count) × (l.fn.cost.net_count ≤ most_nets) × (l.sum ≡ wire_of (from_rows l.rows) l.fn.cost.nets l.net-index) × (l.sum ≤ l.net-index * (2 * most_centre))

@@ -4,23 +4,32 @@ use mathlib.Core.Path.{◌≡◌}
 use native.Mathlib.Omega.{arith}
 use borrow.Author.Rules.{rules}
 use Rattle.rules.proofs.Testing.{all_none, all_more, failed, passed}
+use Rattle.std.proofs.lemmas.List.{length-take}
+use Rattle.rules.specs.Score.{no_net}
+use Rattle.scoring.proofs.Front.{before, one_of_all}
 use Rattle.scoring.proofs.Listed.{nets_many, net_fails, nets_pass}
 use Rattle.scoring.proofs.nets.are_nets.Goals as goal
 
-pub returns-then-count-gt-MOST_NETS : goal.returns-then-count-gt-MOST_NETS
-returns-then-count-gt-MOST_NETS c = nets_many _ _ _ c.if-count-gt-MOST_NETS.true
+pub returns-then-cost-gt-MOST_NETS : goal.returns-then-cost-gt-MOST_NETS
+returns-then-cost-gt-MOST_NETS c = nets_many _ _ _ c.if-cost-gt-MOST_NETS.true
 
-pub loop-i-init : goal.loop-i-init
-loop-i-init c = (search rules, all_none _)
+pub loop-net-init : goal.loop-net-init
+loop-net-init c = (search rules, all_none _)
 
 pub returns-then-not-is_net : goal.returns-then-not-is_net
-returns-then-not-is_net c = net_fails _ _ _ _ c.loop-i-test.true (failed c.is_net.ensures c.if-not-is_net.true-raw)
+returns-then-not-is_net c =
+    let k = c.args.cost in let h = c.loop-net-test.true in
+    let e = failed c.is_net.ensures c.if-not-is_net.true-raw in
+    net_fails _ _ _ _ (before k.net_count k.nets h) (rw (one_of_all k.net_count k.nets h no_net) at e)
 
-pub loop-i-preserved : goal.loop-i-preserved
-loop-i-preserved c =
-    (search rules, all_more _ _ c.loop-i.invariant.1 (passed c.is_net.ensures c.if-not-is_net.false-raw))
+pub loop-net-preserved : goal.loop-net-preserved
+loop-net-preserved c =
+    let k = c.args.cost in let h = c.loop-net-test.true in
+    let e = passed c.is_net.ensures c.if-not-is_net.false-raw in
+    (search rules, all_more _ _ c.loop-net.invariant.1 (rw (one_of_all k.net_count k.nets h no_net) at e))
 
 pub returns : goal.returns
 returns c =
-    let e : c.loop-i.i ≡ c.args.count = omega arith in
-    nets_pass _ _ _ c.if-count-gt-MOST_NETS.false (rw e at c.loop-i.invariant.1)
+    let k = c.args.cost in
+    let e : c.loop-net.net-index ≡ k.net_count = omega (arith, length-take k.net_count k.nets) in
+    nets_pass _ _ _ c.if-cost-gt-MOST_NETS.false (rw e at c.loop-net.invariant.1)

@@ -7,5 +7,5 @@ use Rattle.rules.specs.Search.{all}
 use Rattle.rules.specs.Score.{lawful_net, net_at}
 use Rattle.scoring.proofs.nets.are_nets.Given as goal
 
-abbrev pub invariant-loop-i : goal.invariant-loop-i
-invariant-loop-i l = (l.i ≤ l.count) × (all l.i (λ i. lawful_net l.modules (net_at l.nets i)) ≡ true)
+abbrev pub invariant-loop-net : goal.invariant-loop-net
+invariant-loop-net l = (l.net-index ≤ l.fn.cost.net_count) × (all l.net-index (λ i. lawful_net l.modules (net_at l.fn.cost.nets i)) ≡ true)

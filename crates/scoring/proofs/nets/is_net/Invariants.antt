@@ -8,5 +8,5 @@ use lib.ListN.{get_or}
 use Rattle.rules.specs.Search.{all}
 use Rattle.scoring.proofs.nets.is_net.Given as goal
 
-abbrev pub invariant-loop-j : goal.invariant-loop-j
-invariant-loop-j l = (l.j ≤ l.count) × (all l.j (λ j. ltb (get_or l.members j 0) l.modules) ≡ true)
+abbrev pub invariant-loop-member : goal.invariant-loop-member
+invariant-loop-member l = (l.member-index ≤ l.fn.net.count) × (all l.member-index (λ j. ltb (get_or l.fn.net.modules j 0) l.modules) ≡ true)

@@ -3,28 +3,39 @@
 use mathlib.Core.Path.{◌≡◌, ◌∙◌, ap}
 use native.Mathlib.Omega.{arith}
 use borrow.Author.Rules.{rules}
-use Rattle.rules.specs.Score.{lawful_weight}
+use Rattle.rules.specs.Score.{lawful_weight, weight_of, term_at}
 use Rattle.rules.proofs.Testing.{all_none, all_more, failed, passed}
+use Rattle.std.proofs.lemmas.List.{length-take}
+use Rattle.std.specs.Float.{nan}
+use Rattle.rules.specs.declared.Term.TheVariants.{Area}
+use Rattle.scoring.proofs.Front.{before, one_of_all}
 use Rattle.scoring.proofs.Listed.{terms_many, term_fails, terms_pass}
 use Rattle.scoring.proofs.terms.are_terms.Goals as goal
+use Rattle.scoring.proofs.terms.are_terms.Goals.{After-is_weight}
 
-pub returns-then-count-gt-MOST_TERMS : goal.returns-then-count-gt-MOST_TERMS
-returns-then-count-gt-MOST_TERMS c = terms_many _ _ c.if-count-gt-MOST_TERMS.true
+pub returns-then-cost-gt-MOST_TERMS : goal.returns-then-cost-gt-MOST_TERMS
+returns-then-cost-gt-MOST_TERMS c = terms_many _ _ c.if-cost-gt-MOST_TERMS.true
 
-pub loop-i-init : goal.loop-i-init
-loop-i-init c = (search rules, all_none _)
+pub loop-term-init : goal.loop-term-init
+loop-term-init c = (search rules, all_none _)
+
+-- the weight that is tested is that of the term at this place
+tested : (c : After-is_weight) → c.is_weight.result ≡ lawful_weight (weight_of (term_at c.args.cost.terms c.loop-term.term-index))
+tested c =
+    let k = c.args.cost in
+    rw (one_of_all k.term_count k.terms c.loop-term-test.true (Area nan)) at (c.is_weight.ensures ∙ ap lawful_weight c.weight_of.ensures)
 
 pub returns-then-not-is_weight : goal.returns-then-not-is_weight
 returns-then-not-is_weight c =
-    let w = c.is_weight.ensures ∙ ap lawful_weight c.weight_of.ensures in
-    term_fails _ _ _ c.loop-i-test.true (failed w c.if-not-is_weight.true-raw)
+    let k = c.args.cost in let h = c.loop-term-test.true in
+    term_fails _ _ _ (before k.term_count k.terms h) (failed (tested (goal.at.returns-then-not-is_weight c).After-is_weight) c.if-not-is_weight.true-raw)
 
-pub loop-i-preserved : goal.loop-i-preserved
-loop-i-preserved c =
-    let w = c.is_weight.ensures ∙ ap lawful_weight c.weight_of.ensures in
-    (search rules, all_more _ _ c.loop-i.invariant.1 (passed w c.if-not-is_weight.false-raw))
+pub loop-term-preserved : goal.loop-term-preserved
+loop-term-preserved c =
+    (search rules, all_more _ _ c.loop-term.invariant.1 (passed (tested (goal.at.loop-term-preserved c).After-is_weight) c.if-not-is_weight.false-raw))
 
 pub returns : goal.returns
 returns c =
-    let e : c.loop-i.i ≡ c.args.count = omega arith in
-    terms_pass _ _ c.if-count-gt-MOST_TERMS.false (rw e at c.loop-i.invariant.1)
+    let k = c.args.cost in
+    let e : c.loop-term.term-index ≡ k.term_count = omega (arith, length-take k.term_count k.terms) in
+    terms_pass _ _ c.if-cost-gt-MOST_TERMS.false (rw e at c.loop-term.invariant.1)

@@ -7,5 +7,5 @@ use Rattle.rules.specs.Search.{all}
 use Rattle.rules.specs.Score.{lawful_weight, weight_of, term_at}
 use Rattle.scoring.proofs.terms.are_terms.Given as goal
 
-abbrev pub invariant-loop-i : goal.invariant-loop-i
-invariant-loop-i l = (l.i ≤ l.count) × (all l.i (λ i. lawful_weight (weight_of (term_at l.terms i))) ≡ true)
+abbrev pub invariant-loop-term : goal.invariant-loop-term
+invariant-loop-term l = (l.term-index ≤ l.fn.cost.term_count) × (all l.term-index (λ i. lawful_weight (weight_of (term_at l.fn.cost.terms i))) ≡ true)
