@@ -1,8 +1,9 @@
 -- The pass over the tokens keeps, for each thing that stands, the extent of its rectangles: a module's token puts one down, a cut's
 -- token joins the last two. So at each cut the two extents on top decide whether it is kept. Assumes nothing.
+use Rattle.std.specs.Prelude.{Option, Some, None}
 use mathlib.Core.Path.{◌≡◌, refl, sym, ◌∙◌, ap}
 use mathlib.Core.Logic.{inl, inr}
-use mathlib.Core.Bool.{So}
+use mathlib.Core.Bool.{Bool, true, false, So}
 use mathlib.Core.List.{List, [], ◌∷◌}
 use Prim.Native.Nat.{ℕ, suc, ◌+◌, ◌-◌, ◌*◌, ◌≤◌, ◌<◌}
 use native.Mathlib.Omega.{arith}
@@ -16,14 +17,15 @@ use Rattle.rules.specs.declared.Design.{Design}
 use Rattle.rules.specs.Tree.{Tree, leaf, cut, has, Standing, refused, things, standing, last}
 use Rattle.rules.specs.Placement.{Placement}
 use Rattle.rules.specs.Design.{token_at, nodes, standing_of, node_at, LawfulDesign, most_tokens}
-use Rattle.rules.specs.Check.{kept_at}
+use Rattle.rules.specs.Check.{kept_at, is_kept}
 use Rattle.rules.proofs.Searching.{or_iff}
 use Rattle.rules.proofs.Standing.{part_has, Reading, module_read, cut_read, earlier, read_stands}
 use Rattle.rules.proofs.Nodes.{lawful_tree, node_part}
 use Rattle.rules.proofs.Limits.{limits}
 use Rattle.extents.specs.declared.Extent.{Extent}
+use Rattle.extents.specs.Sides.{together}
 use Rattle.checker.specs.declared.Pass.{Pass}
-use Rattle.checker.specs.Cuts.{nowhere, at_start, after_token, Ready}
+use Rattle.checker.specs.Cuts.{nowhere, at_start, while_kept, after_token, Ready}
 use Rattle.checker.proofs.Extents.{tree_extent, leaf_extent, cut_extent, kept_by_extents}
 
 -- the things that stand, the last first, and the last of them
@@ -81,35 +83,61 @@ pub passed_none : (p : Placement) → Passed p 0 [] at_start
 unfolding Stacked at_start
 passed_none p = record { long = refl; high = refl; few = omega arith; stacked = tt }
 
-module _ (d : Design) (p : Placement) {t : ℕ} {s : Pass} where
-  next : {us vs : List Tree} → Step d t us vs → t < most_tokens → Passed p t us s → Passed p (suc t) vs (after_token p s (token_at d t))
-  unfolding Stacked
-  next (module_stands {k = k} {ts = ts} e b) h P =
-      let q = P.high in let f = P.few in let g = P.long in
-      rw (e, q) (record {
-        long = simp length-set g;
-        high = omega arith;
-        few = omega arith;
-        stacked = stacked_top p (leaf t k) ts s.extents _ (omega arith) (sym (leaf_extent p t k)) P.stacked;
-      })
-  next (cut_joins {c = c} {l = l} {r = r} {ts = ts} e) h P =
-      let f = P.few in let g = P.long in
-      let a : s.standing - 2 ≡ length ts = omega (arith, P.high) in let b : s.standing - 1 ≡ suc (length ts) = omega (arith, P.high) in
-      rw (e, a, b, P.stacked.0, P.stacked.1.0) (record {
-        long = simp length-set g;
-        high = refl;
-        few = omega arith;
-        stacked = stacked_top p (cut t c l r) ts s.extents _ (omega arith) (sym (cut_extent p t c l r)) P.stacked.1.1;
-      })
+-- the pass went on, since the last thing's cut is kept, or it ended there
+abbrev Outcome : Design → Placement → ℕ → List Tree → Option Pass → Type 0
+Outcome d p t vs (Some r) = Passed p (suc t) vs r × (kept_at d.modules p (last_of vs) ≡ true)
+Outcome d p t vs None = kept_at d.modules p (last_of vs) ≡ false
 
-  kept : {us vs : List Tree} → Step d t us vs → ((i : ℕ) → So (has (last_of vs) i) → i < d.modules) → Passed p t us s
-      → (after_token p s (token_at d t)).kept ≡ kept_at d.modules p (last_of vs)
+module _ (d : Design) (p : Placement) {t : ℕ} {s : Pass} where
+  outcome : {us vs : List Tree} → Step d t us vs → ((i : ℕ) → So (has (last_of vs) i) → i < d.modules) → t < most_tokens
+      → Passed p t us s → Outcome d p t vs (after_token p s (token_at d t))
   unfolding Stacked has
-  kept (module_stands e b) below P = rw e
-  kept (cut_joins {c = c} {l = l} {r = r} {ts = ts} e) below P =
-      let a : s.standing - 2 ≡ length ts = omega (arith, P.high) in let b : s.standing - 1 ≡ suc (length ts) = omega (arith, P.high) in
-      rw (e, a, b, P.stacked.0, P.stacked.1.0) (kept_by_extents d.modules c l r p
-      (λ i u. below i ((or_iff (has l i) (has r i)).1 (inl u))) (λ i u. below i ((or_iff (has l i) (has r i)).1 (inr u))))
+  outcome (module_stands {k = k} {ts = ts} e b) below h P =
+      let q = P.high in let f = P.few in let g = P.long in
+      rw (e, q) (
+        record {
+          long = simp length-set g;
+          high = omega arith;
+          few = omega arith;
+          stacked = stacked_top p (leaf t k) ts s.extents _ (omega arith) (sym (leaf_extent p t k)) P.stacked;
+        },
+        refl,
+      )
+  outcome (cut_joins {c = c} {l = l} {r = r} {ts = ts} e) below h P =
+      rw joined (go (is_kept d.modules c l r p) refl)
+    where
+      both : Extent
+      both = together (tree_extent p l) (tree_extent p r)
+
+      after : Pass
+      after = record { extents = set s.extents (length ts) both; standing = suc (length ts) }
+
+      joined : after_token p s (token_at d t) ≡ while_kept (is_kept d.modules c l r p) after
+      joined =
+          let a : s.standing - 2 ≡ length ts = omega (arith, P.high) in
+          let b : s.standing - 1 ≡ suc (length ts) = omega (arith, P.high) in
+          rw (
+            e,
+            a,
+            b,
+            P.stacked.0,
+            P.stacked.1.0,
+            kept_by_extents d.modules c l r p
+                (λ i u. below i ((or_iff (has l i) (has r i)).1 (inl u))) (λ i u. below i ((or_iff (has l i) (has r i)).1 (inr u))),
+          )
+
+      go : (kept : Bool) → is_kept d.modules c l r p ≡ kept → Outcome d p t (cut t c l r ∷ ts) (while_kept kept after)
+      go true q = (
+        record {
+          long = simp length-set P.long;
+          high = refl;
+          few = let f = P.few in omega arith;
+          stacked =
+              stacked_top p (cut t c l r) ts s.extents _ (omega (arith, P.high, P.few, P.long)) (sym (cut_extent p t c l r)) P.stacked.1.1;
+        },
+        q,
+      )
+      go false q = q
 
   ready_for : (rows : List ℕ) → 4 * d.modules ≤ length rows → {us vs : List Tree} → Step d t us vs
       → t < most_tokens → Passed p t us s → Ready rows s.standing (token_at d t)
@@ -132,11 +160,18 @@ module _ (d : Design) (lawful : LawfulDesign d) (p : Placement) {t : ℕ} {s : P
   pub is_ready : {token : Token} → token ≡ token_at d t → (rows : List ℕ) → 4 * d.modules ≤ length rows → Ready rows s.standing token
   is_ready e rows l = rw e (ready_for d p rows l (step d lawful t h) short P)
 
-  pub passed_next : {token : Token} {r : Pass} → token ≡ token_at d t → r ≡ after_token p s token → PassedAt d p (t + 1) r
-  passed_next e q = rw (q, e, add-one) (next d p (step d lawful t h) short P)
+  module _ {token : Token} (e : token ≡ token_at d t) {next : Option Pass} (q : next ≡ after_token p s token) where
+    came : Outcome d p t (things_of (standing_of d (suc t))) next
+    came = rw (q, e) (outcome d p (step d lawful t h) below short P)
+      where
+        below : (i : ℕ) → So (has (last_of (things_of (standing_of d (suc t)))) i) → i < d.modules
+        below i u = ((lawful_tree d lawful).modules i).0 (part_has (node_part d lawful t h) i (rw (last_thing (standing_of d (suc t))) u))
 
-  pub kept_is : {token : Token} {r : Pass} → token ≡ token_at d t → r ≡ after_token p s token → kept_at d.modules p (node_at d t) ≡ r.kept
-  kept_is e q = rw (q, e) (ap (kept_at d.modules p) (last_thing (standing_of d (suc t))) ∙ sym (kept d p (step d lawful t h) below P))
-    where
-      below : (i : ℕ) → So (has (last_of (things_of (standing_of d (suc t)))) i) → i < d.modules
-      below i u = ((lawful_tree d lawful).modules i).0 (part_has (node_part d lawful t h) i (rw (last_thing (standing_of d (suc t))) u))
+    node_last : kept_at d.modules p (node_at d t) ≡ kept_at d.modules p (last_of (things_of (standing_of d (suc t))))
+    node_last = ap (kept_at d.modules p) (last_thing (standing_of d (suc t)))
+
+    pub passed_next : {r : Pass} → next ≡ Some r → PassedAt d p (t + 1) r × (kept_at d.modules p (node_at d t) ≡ true)
+    passed_next w = let o = rw w at came in (rw add-one o.0, node_last ∙ o.1)
+
+    pub passed_out : next ≡ None → kept_at d.modules p (node_at d t) ≡ false
+    passed_out w = node_last ∙ (rw w at came)

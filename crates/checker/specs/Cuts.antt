@@ -1,5 +1,5 @@
--- The pass over the tokens: the extents of the things that stand, and whether each cut is kept.
-use Rattle.std.specs.Prelude.{Bool, true, List, ℕ, ◌+◌, ◌-◌, ◌*◌, ◌≤◌, ◌<◌, leb, length, get_or, set, replicate}
+-- The pass over the tokens: the extents of the things that stand; it ends at a cut that is not kept.
+use Rattle.std.specs.Prelude.{Bool, true, false, Option, Some, None, List, ℕ, ◌+◌, ◌-◌, ◌*◌, ◌≤◌, ◌<◌, leb, length, get_or, set, replicate}
 use Rattle.rules.specs.declared.Direction.{Direction}
 use Rattle.rules.specs.declared.Token.{Token}
 use Rattle.rules.specs.declared.Token.TheVariants.{Cut, Module, Beyond}
@@ -19,22 +19,27 @@ abbrev pub nowhere : Extent
 nowhere = extent 0 0 0 0
 
 unfoldable pub at_start : Pass
-at_start = record { extents = replicate most_tokens nowhere; standing = 0; kept = true }
+at_start = record { extents = replicate most_tokens nowhere; standing = 0 }
 
 -- a module stands
 abbrev pub after_module : Pass → Extent → Pass
-after_module s e = record { extents = set s.extents s.standing e; standing = s.standing + 1; kept = true }
+after_module s e = record { extents = set s.extents s.standing e; standing = s.standing + 1 }
+
+-- the pass goes on where a cut is kept, and ends where it is not
+abbrev pub while_kept : Bool → Pass → Option Pass
+while_kept true s = Some s
+while_kept false s = None
 
 -- "A cut joins the two things standing last, the earlier being its left child."
-abbrev pub after_cut : Pass → Direction → Pass
+abbrev pub after_cut : Pass → Direction → Option Pass
 after_cut s d =
     let l = get_or s.extents (s.standing - 2) nowhere in let r = get_or s.extents (s.standing - 1) nowhere in
-    record { extents = set s.extents (s.standing - 2) (together l r); standing = s.standing - 1; kept = ends_before d l r }
+    while_kept (ends_before d l r) (record { extents = set s.extents (s.standing - 2) (together l r); standing = s.standing - 1 })
 
-abbrev pub after_token : Placement → Pass → Token → Pass
+abbrev pub after_token : Placement → Pass → Token → Option Pass
 after_token p s (Cut d) = after_cut s d
-after_token p s (Module k) = after_module s (extent_of (p k))
-after_token p s Beyond = s
+after_token p s (Module k) = Some (after_module s (extent_of (p k)))
+after_token p s Beyond = Some s
 
 -- there is room for what the token adds, and what it joins stands
 abbrev pub Ready : List ℕ → ℕ → Token → Type 0

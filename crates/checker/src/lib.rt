@@ -14,29 +14,24 @@ use rows::rectangle_at;
 use rules::{Columns, Corner, Design, Direction, MOST_TOKENS, Rectangle, Refusal, Rows, Token};
 use tokens::token_of;
 
-// A pass over the tokens: the extents of the things standing, how many there are, and whether the last cut was kept.
+// A pass over the tokens: the extents of the things standing, and how many there are.
+// stays: a count beside an array, in fixed memory: no list grows where no heap is
 #[derive(Clone, Copy)]
 struct Pass {
     pub extents: [Extent; MOST_TOKENS],
     pub standing: usize,
-    pub kept: bool,
 }
 
 // Neither side is zero, and the rectangle ends on the chip.
+#[tactic(auto, unfolding(rules::specs::Check::is_on_chip))]
 fn is_on_chip(width: Columns, height: Rows, r: Rectangle) -> bool
     requires { Bytes r }
     ensures { result ≡ is_on_chip width.0 height.0 r }
 {
-    if r.shape.w.0 < 1 {
-        return false;
-    }
-    if r.shape.h.0 < 1 {
-        return false;
-    }
-    if width.0 < r.corner.x.0 + r.shape.w.0 {
-        return false;
-    }
-    r.corner.y.0 + r.shape.h.0 <= height.0
+    1 <= r.shape.w.0
+        && 1 <= r.shape.h.0
+        && r.corner.x.0 + r.shape.w.0 <= width.0
+        && r.corner.y.0 + r.shape.h.0 <= height.0
 }
 
 // The reply to module k alone: off the chip before short of its need.
@@ -75,12 +70,11 @@ fn after_module(pass: Pass, extent: Extent) -> Pass
     Pass {
         extents,
         standing: standing + 1,
-        kept: true,
     }
 }
 
-// The pass after a cut's token: it joins the two things standing last, and is kept or not.
-fn after_cut(pass: Pass, direction: Direction) -> Pass
+// The pass after a cut's token, which joins the two things standing last; none where the cut is not kept.
+fn after_cut(pass: Pass, direction: Direction) -> Option<Pass>
     requires { (2 ≤ pass.standing) × (pass.standing ≤ most_tokens) }
     ensures { result ≡ after_cut pass direction }
 {
@@ -88,27 +82,30 @@ fn after_cut(pass: Pass, direction: Direction) -> Pass
     let mut extents = pass.extents;
     let l = extents[standing - 2];
     let r = extents[standing - 1];
+    if !is_kept(direction, l, r) {
+        return None;
+    }
     extents[standing - 2] = together(l, r);
-    Pass {
+    Some(Pass {
         extents,
         standing: standing - 1,
-        kept: is_kept(direction, l, r),
-    }
+    })
 }
 
-// The pass after one token more.
-fn after_token(pass: Pass, token: Token, rows: &[u8]) -> Pass
+// The pass after one token more; none where a cut is not kept.
+fn after_token(pass: Pass, token: Token, rows: &[u8]) -> Option<Pass>
     requires { Ready rows.now pass.standing token }
     ensures { result ≡ after_token (from_rows rows.now) pass token }
 {
     match token {
         Token::Cut(direction) => after_cut(pass, direction),
-        Token::Module(k) => after_module(pass, extent_of(rectangle_at(rows, k))),
-        Token::Beyond => pass,
+        Token::Module(k) => Some(after_module(pass, extent_of(rectangle_at(rows, k)))),
+        Token::Beyond => Some(pass),
     }
 }
 
 // The pass before the first token.
+#[tactic(auto, unfolding(crate::specs::Cuts::at_start))]
 fn at_start() -> Pass
     ensures { result ≡ at_start }
 {
@@ -123,7 +120,6 @@ fn at_start() -> Pass
     Pass {
         extents: [nowhere; MOST_TOKENS],
         standing: 0,
-        kept: true,
     }
 }
 
@@ -135,10 +131,10 @@ fn judge_cuts(d: Design, rows: &[u8]) -> Result<(), Refusal>
     let nodes = 2 * d.modules - 1;
     let mut pass = at_start();
     for t in 0..nodes {
-        pass = after_token(pass, token_of(d.tokens[t]), rows);
-        if !pass.kept {
+        let Some(next) = after_token(pass, token_of(d.tokens[t]), rows) else {
             return Err(Refusal::CutNotKept(t));
-        }
+        };
+        pass = next;
     }
     Ok(())
 }
