@@ -14,7 +14,7 @@ ghost use Rattle.cellweaver_c.specs.Asked.{AskedCheck, AskedScore, AskedEdit, Ed
 use cellweaver::{check, edit, list, place, plan, read, work_needed, write};
 use costs::score_slices;
 use replies::number_of;
-use rules::{Design, Edit, Need, Refusal};
+use rules::{Design, Edit, Need, Refusal, Score, Shape};
 use writing::design_size;
 
 // A refusal's number, and its value.
@@ -102,17 +102,13 @@ fn edit_into(
 {
     if out.len() < design_size() {
         let mut none = [0u8; 0];
-        let handed = edit(design, change, &mut none);
-        let reply = handed.reply;
-        return say(reply, value);
+        return say(edit(design, change, &mut none).reply, value);
     }
     let handed = edit(design, change, work);
-    let reply = handed.reply;
-    if let Err(e) = reply {
+    if let Err(e) = handed.reply {
         return say_refused(e, value);
     }
-    let next = handed.design;
-    say_written(write(next, out), value)
+    say_written(write(handed.design, out), value)
 }
 
 // Reads a design and edits it.
@@ -126,8 +122,7 @@ fn edit_bytes(
     ensures { AskedEdit (given bytes) change (lent work) (lent out) (said result value) }
 {
     let handed = read(bytes);
-    let reply = handed.reply;
-    if let Err(e) = reply {
+    if let Err(e) = handed.reply {
         return say_refused(e, value);
     }
     edit_into(handed.design, change, work, out, value)
@@ -138,9 +133,7 @@ fn edit_bytes(
 pub extern "C" fn cellweaver_read(bytes: &[u8], value: &mut usize) -> usize
     ensures { AskedRead (given bytes) (said result value) }
 {
-    let handed = read(bytes);
-    let reply = handed.reply;
-    say(reply, value)
+    say(read(bytes).reply, value)
 }
 
 // Puts the sizes of a lawful design into places: W, H, m, and the bytes that its lists and its rows take.
@@ -176,8 +169,7 @@ pub extern "C" fn cellweaver_sizes(
     ensures { AskedSizes (given bytes) (sizes width height modules work rows) (said result value) }
 {
     let handed = read(bytes);
-    let reply = handed.reply;
-    if let Err(e) = reply {
+    if let Err(e) = handed.reply {
         *width = 0;
         *height = 0;
         *modules = 0;
@@ -196,8 +188,7 @@ pub extern "C" fn cellweaver_write(bytes: &[u8], out: &mut [u8], value: &mut usi
     ensures { AskedWrite (given bytes) (lent out) (said result value) }
 {
     let handed = read(bytes);
-    let reply = handed.reply;
-    if let Err(e) = reply {
+    if let Err(e) = handed.reply {
         return say_refused(e, value);
     }
     say_written(write(handed.design, out), value)
@@ -209,8 +200,7 @@ pub extern "C" fn cellweaver_list(bytes: &[u8], work: &mut [u8], value: &mut usi
     ensures { AskedList (given bytes) (lent work) (said result value) }
 {
     let handed = read(bytes);
-    let reply = handed.reply;
-    if let Err(e) = reply {
+    if let Err(e) = handed.reply {
         return say_refused(e, value);
     }
     say(list(handed.design, work), value)
@@ -229,8 +219,7 @@ pub extern "C" fn cellweaver_plan(
     ensures { AskedPlan (given bytes) (lent work) (lent rows) (boxed result value width height) }
 {
     let handed = read(bytes);
-    let reply = handed.reply;
-    if let Err(e) = reply {
+    if let Err(e) = handed.reply {
         return say_planned(Err(e), width, height, value);
     }
     say_planned(plan(handed.design, work, rows), width, height, value)
@@ -249,8 +238,7 @@ pub extern "C" fn cellweaver_place(
     ensures { AskedPlace (given bytes) (given work) (lent rows) (boxed result value width height) }
 {
     let handed = read(bytes);
-    let reply = handed.reply;
-    if let Err(e) = reply {
+    if let Err(e) = handed.reply {
         return say_planned(Err(e), width, height, value);
     }
     say_planned(place(handed.design, work, rows), width, height, value)
@@ -262,8 +250,7 @@ pub extern "C" fn cellweaver_check(bytes: &[u8], rows: &[u8], value: &mut usize)
     ensures { AskedCheck (given bytes) (given rows) (said result value) }
 {
     let handed = read(bytes);
-    let reply = handed.reply;
-    if let Err(e) = reply {
+    if let Err(e) = handed.reply {
         return say_refused(e, value);
     }
     say(check(handed.design, rows), value)
@@ -284,8 +271,7 @@ pub extern "C" fn cellweaver_score(
     ensures { AskedScore (given bytes) (given rows) (asked kinds weights nets) (marked result value total last) }
 {
     let handed = read(bytes);
-    let reply = handed.reply;
-    if let Err(e) = reply {
+    if let Err(e) = handed.reply {
         return say_scored(Err(e), total, last, value);
     }
     let scored = score_slices(handed.design, rows, kinds, weights, nets);

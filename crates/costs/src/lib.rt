@@ -11,7 +11,7 @@ ghost use Rattle.costs.specs.Slices.{cost_in};
 
 use cellweaver::score;
 use nets::nets_in;
-use rules::{Design};
+use rules::{Cost, Design, Refusal, Score};
 use terms::{term_count, terms_in};
 
 // The score of a floorplan in rows, by terms and nets in slices.
@@ -24,9 +24,12 @@ pub fn score_slices(
 ) -> Result<Score, Refusal>
     ensures { Scores design (given rows) (cost_in (given kinds) (given weights) (given nets)) result }
 {
-    let terms = terms_in(kinds, weights);
-    let count = term_count(kinds, weights);
     let taken = nets_in(nets);
-    let places = taken.nets;
-    score(design, rows, terms, count, places, taken.count)
+    let cost = Cost {
+        terms: terms_in(kinds, weights),
+        term_count: term_count(kinds, weights),
+        nets: taken.nets,
+        net_count: taken.count,
+    };
+    score(design, rows, cost)
 }

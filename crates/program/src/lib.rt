@@ -10,7 +10,7 @@ ghost use Rattle.program.specs.Run.{Answers, Runs, PlansInput};
 
 use cellweaver::{plan, read};
 use printing::{TEXT_SIZE, plan_text};
-use rules::{Handed, MOST_MODULES};
+use rules::{Handed, MOST_MODULES, Refusal, Shape};
 
 // The bytes of input that the program reads at most, as many as decide every reading, and its work.
 pub const MOST_INPUT: usize = 4096;
@@ -21,12 +21,8 @@ pub const WORK: usize = 65536;
 fn plan_read(handed: Handed, work: &mut [u8], rows: &mut [u8]) -> Result<Shape, Refusal>
     ensures { Answers handed (lent work) (lent rows) result }
 {
-    let reply = handed.reply;
-    if let Err(e) = reply {
-        return Err(e);
-    }
-    let design = handed.design;
-    plan(design, work, rows)
+    handed.reply?;
+    plan(handed.design, work, rows)
 }
 
 // Plans the design in some bytes, puts the text into `out` and gives its length.

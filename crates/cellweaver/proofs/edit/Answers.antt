@@ -7,7 +7,6 @@ use Rattle.rules.specs.declared.Design.{Design}
 use Rattle.rules.specs.Design.{Sized, LawfulDesign}
 use Rattle.rules.specs.Edit.{names_place}
 use Rattle.rules.proofs.Searching.{absurd_so}
-use Rattle.rules.proofs.Testing.{failed, passed}
 use Rattle.listing.proofs.Passing.{way_made}
 use Rattle.cellweaver.proofs.Needed.{no_stairs, stairs, edited_lawful, edited_work}
 use Rattle.cellweaver.proofs.Answers.{edit_refuses, edit_unnamed, edit_short, edit_stranger, edit_done}
@@ -16,27 +15,27 @@ use Rattle.cellweaver.proofs.edit.Goals.{Else-not-names_place, In_default}
 
 -- past the tests, and past 11
 is_lawful : (c : In_default) → LawfulDesign c.args.design
-is_lawful c = sym c.value_test-reply.ensures.is ∙ c.in_default.is
+is_lawful c = sym c.value_test.ensures.is ∙ c.in_default.is
 
 has-places : (c : In_default) → Sized c.args.design
-has-places c = c.value_test-reply.ensures.sized
+has-places c = c.value_test.ensures.sized
 
 abbrev the-design : Else-not-names_place → Design
 the-design c = c.args.design
 
 is-named : (c : Else-not-names_place) → So (names_place c.args.design c.args.change)
-is-named c = passed c.names_place.ensures c.if-not-names_place.false-raw
+is-named c = sym c.names_place.ensures ∙ c.if-not-names_place.false
 
-pub returns-in-Refused : goal.returns-in-Refused
-returns-in-Refused c =
-    edit_refuses _ c.value_test-reply.ensures.sized _ _ c.refused.ensures (sym c.value_test-reply.ensures.is ∙ c.in-Refused.is)
+pub returns-in-Err : goal.returns-in-Err
+returns-in-Err c =
+    edit_refuses _ c.value_test.ensures.sized _ _ c.refused.ensures (sym c.value_test.ensures.is ∙ c.in-Err.is)
 
 pub names_place-requires : goal.names_place-requires
 names_place-requires c = is_lawful (goal.at.names_place-requires c).In_default
 
 pub returns-then-not-names_place : goal.returns-then-not-names_place
 returns-then-not-names_place c =
-    edit_unnamed _ (has-places (goal.at.returns-then-not-names_place c).In_default) _ _ (is_lawful (goal.at.returns-then-not-names_place c).In_default) c.refused-then-not-names_place.ensures (λ s. absurd_so (sym (failed c.names_place.ensures c.if-not-names_place.true-raw) ∙ s))
+    edit_unnamed _ (has-places (goal.at.returns-then-not-names_place c).In_default) _ _ (is_lawful (goal.at.returns-then-not-names_place c).In_default) c.refused-then-not-names_place.ensures (λ s. absurd_so (sym (sym c.names_place.ensures ∙ c.if-not-names_place.true) ∙ s))
 
 pub work_needed-requires : goal.work_needed-requires
 work_needed-requires c = is_lawful (goal.at.work_needed-requires c).In_default

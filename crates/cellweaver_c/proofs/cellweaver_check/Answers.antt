@@ -2,9 +2,9 @@
 use Rattle.cellweaver_c.proofs.Asking.{unread_asked, read_asked}
 use Rattle.cellweaver_c.proofs.cellweaver_check.Goals as goal
 
-pub returns-in-Refused : goal.returns-in-Refused
-returns-in-Refused c =
-    unread_asked c.read-handed.ensures c.in-Refused.is c.say_refused.ensures tt
+pub returns-in-Err : goal.returns-in-Err
+returns-in-Err c =
+    unread_asked c.read-handed.ensures c.in-Err.is c.say_refused.ensures tt
 
 pub returns : goal.returns
 returns c =

@@ -3,10 +3,10 @@ use mathlib.Core.Path.{ap}
 use Rattle.cellweaver_c.proofs.Asking.{unread_asked, read_asked}
 use Rattle.cellweaver_c.proofs.cellweaver_score.Goals as goal
 
-pub returns-in-Refused : goal.returns-in-Refused
-returns-in-Refused c =
+pub returns-in-Err : goal.returns-in-Err
+returns-in-Err c =
     let s = c.say_scored.ensures in
-    unread_asked c.read-handed.ensures c.in-Refused.is (ap (λ a. a.reply) s) (ap (λ a. a.values) s)
+    unread_asked c.read-handed.ensures c.in-Err.is (ap (λ a. a.reply) s) (ap (λ a. a.values) s)
 
 pub returns : goal.returns
 returns c =

@@ -3,9 +3,9 @@ use mathlib.Core.Path.{refl}
 use Rattle.cellweaver_c.proofs.Asking.{reads_lawful, unread_asked, read_asked}
 use Rattle.cellweaver_c.proofs.cellweaver_sizes.Goals as goal
 
-pub returns-in-Refused : goal.returns-in-Refused
-returns-in-Refused c =
-    unread_asked c.read-handed.ensures c.in-Refused.is c.say_refused.ensures refl
+pub returns-in-Err : goal.returns-in-Err
+returns-in-Err c =
+    unread_asked c.read-handed.ensures c.in-Err.is c.say_refused.ensures refl
 
 pub put_sizes-requires : goal.put_sizes-requires
 put_sizes-requires c =

@@ -3,9 +3,9 @@ use mathlib.Core.Path.{refl}
 use Rattle.cellweaver_c.proofs.Asking.{reads_lawful, unread_asked, read_asked}
 use Rattle.cellweaver_c.proofs.edit_bytes.Goals as goal
 
-pub returns-in-Refused : goal.returns-in-Refused
-returns-in-Refused c =
-    unread_asked c.read-handed.ensures c.in-Refused.is c.say_refused.ensures (refl, refl)
+pub returns-in-Err : goal.returns-in-Err
+returns-in-Err c =
+    unread_asked c.read-handed.ensures c.in-Err.is c.say_refused.ensures (refl, refl)
 
 pub edit_into-requires : goal.edit_into-requires
 edit_into-requires c =

@@ -9,9 +9,9 @@ pub returns-then-out-design_size : goal.returns-then-out-design_size
 returns-then-out-design_size c =
     short_out _ _ c.requires refl c.edit-handed.ensures c.say.ensures (omega arith)
 
-pub returns-in-Refused : goal.returns-in-Refused
-returns-in-Refused c =
-    edit_refused _ _ c.requires (omega arith) c.edit-handed-2.ensures c.in-Refused.is c.say_refused.ensures
+pub returns-in-Err : goal.returns-in-Err
+returns-in-Err c =
+    edit_refused _ _ c.requires (omega arith) c.edit-handed-2.ensures c.in-Err.is c.say_refused.ensures
 
 pub returns : goal.returns
 returns c =

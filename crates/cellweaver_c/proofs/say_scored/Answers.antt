@@ -4,6 +4,6 @@ use Rattle.rules.specs.Reply.{scored_answer}
 use Rattle.cellweaver_c.proofs.Asking.{unscored_answer}
 use Rattle.cellweaver_c.proofs.say_scored.Goals as goal
 
-pub returns-in-Refused : goal.returns-in-Refused
-returns-in-Refused c =
-    unscored_answer _ c.say_refused.ensures ∙ ap scored_answer (sym c.in-Refused.is)
+pub returns-in-Err : goal.returns-in-Err
+returns-in-Err c =
+    unscored_answer _ c.say_refused.ensures ∙ ap scored_answer (sym c.in-Err.is)

@@ -2,8 +2,8 @@
 use Rattle.program.proofs.Reading.{answers_refused, answers_planned}
 use Rattle.program.proofs.plan_read.Goals as goal
 
-pub returns-in-Refused : goal.returns-in-Refused
-returns-in-Refused c = answers_refused _ c.in-Refused.is
+pub returns-in-Err : goal.returns-in-Err
+returns-in-Err c = answers_refused _ c.in-Err.is
 
 pub returns : goal.returns
 returns c = answers_planned _ c.in_default.is c.plan.ensures

@@ -13,8 +13,8 @@ is_lawful c = sym c.value_test-reply.ensures.is ∙ c.in_default.is
 has_places : (c : In_default) → Sized c.args.d
 has_places c = c.value_test-reply.ensures.sized
 
-pub returns-in-Refused : goal.returns-in-Refused
-returns-in-Refused c = refuses _ c.value_test-reply.ensures.sized _ _ (sym c.value_test-reply.ensures.is ∙ c.in-Refused.is)
+pub returns-in-Err : goal.returns-in-Err
+returns-in-Err c = refuses _ c.value_test-reply.ensures.sized _ _ (sym c.value_test-reply.ensures.is ∙ c.in-Err.is)
 
 pub design_len-count-requires : goal.design_len-count-requires
 design_len-count-requires c = is_lawful (goal.at.design_len-count-requires c).In_default
