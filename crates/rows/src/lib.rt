@@ -14,14 +14,14 @@ pub fn rectangle_at(rows: &[u8], k: usize) -> Rectangle
     requires { 4 * k + 4 ≤ length rows.now }
     ensures { (result ≡ from_rows rows.now k) × Bytes result }
 {
-    let at = 4 * k;
+    let row = &rows[4 * k..4 * k + 4];
     let corner = Corner {
-        x: Columns(rows[at] as usize),
-        y: Rows(rows[at + 1] as usize),
+        x: Columns(row[0] as usize),
+        y: Rows(row[1] as usize),
     };
     let shape = Shape {
-        w: Columns(rows[at + 2] as usize),
-        h: Rows(rows[at + 3] as usize),
+        w: Columns(row[2] as usize),
+        h: Rows(row[3] as usize),
     };
     Rectangle { corner, shape }
 }
@@ -31,9 +31,11 @@ pub fn row_out(rows: &mut [u8], k: usize, r: Rectangle)
     requires { (4 * k + 4 ≤ length rows.old) × Bytes r }
     ensures { rows.new ≡ sets rows.old (4 * k) (row_of r) }
 {
-    let at = 4 * k;
-    rows[at] = r.corner.x.0 as u8;
-    rows[at + 1] = r.corner.y.0 as u8;
-    rows[at + 2] = r.shape.w.0 as u8;
-    rows[at + 3] = r.shape.h.0 as u8;
+    let row = [
+        r.corner.x.0 as u8,
+        r.corner.y.0 as u8,
+        r.shape.w.0 as u8,
+        r.shape.h.0 as u8,
+    ];
+    rows[4 * k..4 * k + 4].copy_from_slice(&row);
 }

@@ -1,25 +1,14 @@
--- The four stores are the rules' four bytes; on a chip within the limits each fits a byte. Assumes nothing.
-use mathlib.Core.Path.{◌≡◌}
-use Prim.Native.Nat.{ℕ, suc, ◌+◌}
+-- The row is stored at its place, as the rules' four bytes; on a chip within the limits each fits a byte. Assumes nothing.
+use mathlib.Core.Path.{◌≡◌, sym}
+use Prim.Native.Nat.{ℕ, ◌+◌, ◌-◌, ◌*◌}
 use native.Mathlib.Omega.{arith}
-use native.Mathlib.Numerals.{add-one}
-use lib.ListN.{length-set}
+use Rattle.std.proofs.lemmas.List.{append_assoc, drop-drop}
+use Rattle.std.proofs.lemmas.List.Edits.{sets-eq}
+use Rattle.rules.specs.Choice.{row_of}
 use Rattle.rows.proofs.row_out.Goals as goal
 
-add-two : (n : ℕ) → n + 2 ≡ suc (suc n)
-add-two n = omega arith
-
-add-three : (n : ℕ) → n + 3 ≡ suc (suc (suc n))
-add-three n = omega arith
-
-pub bounds-rows-at-2 : goal.bounds-rows-at-2
-bounds-rows-at-2 c = simp length-set (omega arith)
-
-pub bounds-rows-at-3 : goal.bounds-rows-at-3
-bounds-rows-at-3 c = simp length-set (omega arith)
-
-pub bounds-rows-at-4 : goal.bounds-rows-at-4
-bounds-rows-at-4 c = simp length-set (omega arith)
-
 pub returns : goal.returns
-returns c = rw (add-one, add-two, add-three)
+returns c =
+    let a = c.args in let at : ℕ = 4 * a.k in let four : at + 4 - at ≡ 4 = omega arith in
+    rw (c.copy_from_slice.ensures.after, four, drop-drop 4 at a.rows.now)
+    (sym (rw append_assoc at (sets-eq (row_of a.r) a.rows.now at (omega arith))))
