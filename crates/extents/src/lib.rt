@@ -14,35 +14,8 @@ pub struct Extent {
     pub far: Corner,
 }
 
-// The lesser of two left sides.
-fn leftmost(a: Columns, b: Columns) -> Columns
-    ensures { result.0 ≡ min a.0 b.0 }
-{
-    if a.0 < b.0 { a } else { b }
-}
-
-// The lesser of two bottom sides.
-fn lowest(a: Rows, b: Rows) -> Rows
-    ensures { result.0 ≡ min a.0 b.0 }
-{
-    if a.0 < b.0 { a } else { b }
-}
-
-// The greater of two right sides.
-fn rightmost(a: Columns, b: Columns) -> Columns
-    ensures { result.0 ≡ max a.0 b.0 }
-{
-    if a.0 < b.0 { b } else { a }
-}
-
-// The greater of two top sides.
-fn highest(a: Rows, b: Rows) -> Rows
-    ensures { result.0 ≡ max a.0 b.0 }
-{
-    if a.0 < b.0 { b } else { a }
-}
-
 // The extent of a module's rectangle.
+// stays: (a) no From, which may ask for nothing: the sums fit by Bytes.
 pub fn extent_of(r: Rectangle) -> Extent
     requires { Bytes r }
     ensures { result ≡ extent_of r }
@@ -60,12 +33,12 @@ pub fn together(l: Extent, r: Extent) -> Extent
     ensures { result ≡ together l r }
 {
     let low = Corner {
-        x: leftmost(l.low.x, r.low.x),
-        y: lowest(l.low.y, r.low.y),
+        x: Columns(l.low.x.0.min(r.low.x.0)),
+        y: Rows(l.low.y.0.min(r.low.y.0)),
     };
     let far = Corner {
-        x: rightmost(l.far.x, r.far.x),
-        y: highest(l.far.y, r.far.y),
+        x: Columns(l.far.x.0.max(r.far.x.0)),
+        y: Rows(l.far.y.0.max(r.far.y.0)),
     };
     Extent { low, far }
 }
