@@ -27,9 +27,9 @@ held_in C column a n = record {
 
 -- the steps of the count
 module _ (C : Chip) (column : Need) (a : ℕ) where
-  pub none_held : no_need ≡ held_in C column a (a - a)
+  pub none_held : no_need ≡ held_in C column a 0
   unfolding columns_of count
-  none_held = let e : a - a ≡ 0 = omega arith in rw e (simp zero-mul)
+  none_held = simp zero-mul
 
   column_more : (k v n : ℕ) → columns_of C k a n * v + only_if (eqb (kind_at C (a + n)) k) v ≡ columns_of C k a (suc n) * v
   unfolding columns_of count
@@ -42,13 +42,12 @@ module _ (C : Chip) (column : Need) (a : ℕ) where
       go true = rw add-mul (omega arith)
       go false = omega arith
 
-  pub one_more_held : (held : Need) (x : ℕ) → a ≤ x → held ≡ held_in C column a (x - a)
-      → with_column held (kind_at C x) column ≡ held_in C column a (x + 1 - a)
+  pub one_more_held : (held : Need) (n : ℕ) → held ≡ held_in C column a n
+      → with_column held (kind_at C (a + n)) column ≡ held_in C column a (suc n)
   unfolding with_column
-  one_more_held held x h e =
-      let q : x + 1 - a ≡ suc (x - a) = omega arith in let w : a + (x - a) ≡ x = omega arith in
-      let each : (k v : ℕ) → _ = λ k v. rw w at (column_more k v (x - a)) in
-      rw (q, e) (λ i. record { clbs = each 0 column.clbs i; rams = each 1 column.rams i; multipliers = each 2 column.multipliers i })
+  one_more_held held n e =
+      let each : (k v : ℕ) → _ = λ k v. column_more k v n in
+      rw e (λ i. record { clbs = each 0 column.clbs i; rams = each 1 column.rams i; multipliers = each 2 column.multipliers i })
 
   pub few_held : (held : Need) (n : ℕ) → n ≤ most_columns → EachUpTo most_rows column → held ≡ held_in C column a n
       → EachUpTo (most_columns * most_rows) held
@@ -70,6 +69,6 @@ module _ (C : Chip) (lawful : So (lawful_chip C)) (r : Rectangle) (on : OnChip C
       e : top r - bottom r ≡ r.shape.h.0
       e = omega arith
 
-  pub all_held : (blocks x : ℕ) (held : Need) → blocks ≡ blocks_between C.block.0 (bottom r) (top r) → x ≡ right r
-      → held ≡ held_in C (column_in r.shape.h.0 blocks) (left r) (x - left r) → held ≡ holds C r
-  all_held blocks x held e q h = let w : x - left r ≡ r.shape.w.0 = omega arith in h ∙ rw (w, e) (sym holds_columns)
+  pub all_held : (blocks n : ℕ) (held : Need) → blocks ≡ blocks_between C.block.0 (bottom r) (top r) → n ≡ r.shape.w.0
+      → held ≡ held_in C (column_in r.shape.h.0 blocks) (left r) n → held ≡ holds C r
+  all_held blocks n held e q h = h ∙ rw (q, e) (sym holds_columns)

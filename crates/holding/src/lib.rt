@@ -12,6 +12,7 @@ ghost use Rattle.holding.specs.Held.{EachUpTo, with_column};
 use rules::{Chip, Design, Need, Rectangle, Rows};
 
 // How many blocks stand whole in the rows from low to before far, where each is so many rows high.
+#[tactic(auto, unfolding(rules::proofs::Test::blocks_between))]
 pub fn blocks_between(block: Rows, low: Rows, far: Rows) -> usize
     requires { (0 < block.0) × (block.0 ≤ most_rows) × (low.0 ≤ most_rows) × (far.0 ≤ most_rows) }
     ensures { (result ≡ blocks_between block.0 low.0 far.0) × (result ≤ most_rows) }
@@ -20,37 +21,29 @@ pub fn blocks_between(block: Rows, low: Rows, far: Rows) -> usize
     let high = block.0 as u32;
     let first = (low.0 as u32 + (high - 1)) / high;
     let end = far.0 as u32 / high;
-    if first <= end {
-        (end - first) as usize
-    } else {
-        0
-    }
+    end.saturating_sub(first) as usize
 }
 
 // What is held with one column more, which adds what it holds of its own kind.
+// stays: (a) kinds are numbers in a chip, where rules' limits and the value test speak of 3 and more.
+#[tactic(auto, unfolding(crate::specs::Held::with_column))]
 pub fn with_column(held: Need, kind: u8, column: Need) -> Need
     requires { (kind ≤ last_kind) × EachUpTo (most_columns * most_rows) held × EachUpTo most_rows column }
     ensures { result ≡ with_column held kind column }
 {
-    let clbs = held.clbs;
-    let rams = held.rams;
-    let multipliers = held.multipliers;
     match kind {
         0 => Need {
-            clbs: clbs + column.clbs,
-            rams,
-            multipliers,
+            clbs: held.clbs + column.clbs,
+            ..held
         },
         1 => Need {
-            clbs,
-            rams: rams + column.rams,
-            multipliers,
+            rams: held.rams + column.rams,
+            ..held
         },
         // kind 2, the last one
         _ => Need {
-            clbs,
-            rams,
-            multipliers: multipliers + column.multipliers,
+            multipliers: held.multipliers + column.multipliers,
+            ..held
         },
     }
 }
@@ -73,23 +66,19 @@ fn held(chip: Chip, r: Rectangle) -> Need
         rams: 0,
         multipliers: 0,
     };
-    for x in left..right {
-        held = with_column(held, chip.kinds[x], column);
+    for kind in &chip.kinds[left..right] {
+        held = with_column(held, *kind, column);
     }
     held
 }
 
 // What is held is at least the need, of each kind.
+// stays: (d) no order of Need: a derived one would be lexical.
+#[tactic(auto, unfolding(rules::specs::Check::is_at_most))]
 pub fn is_at_most(need: Need, held: Need) -> bool
     ensures { result ≡ is_at_most need held }
 {
-    if held.clbs < need.clbs {
-        return false;
-    }
-    if held.rams < need.rams {
-        return false;
-    }
-    need.multipliers <= held.multipliers
+    need.clbs <= held.clbs && need.rams <= held.rams && need.multipliers <= held.multipliers
 }
 
 // A rectangle on the chip holds what module k needs.
