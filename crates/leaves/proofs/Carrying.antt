@@ -1,6 +1,7 @@
 -- What the walk carries is what the room holds: from all rows and no column on, a column more is the room one column wider, and a row less the
 -- room one row lower. So a room is tested by what is carried, and nothing carried grows too large. Assumes nothing.
 use mathlib.Core.Path.{◌≡◌, refl, sym, ◌∙◌}
+use mathlib.Core.Bool.{So}
 use Prim.Native.Nat.{ℕ, suc, ◌+◌, ◌-◌, ◌*◌, ◌≤◌, ◌<◌}
 use native.Mathlib.Omega.{arith}
 use native.Mathlib.Nat.{le_refl, sub-zero, mul-sub, mul-le-mul, div-le_self}
@@ -12,7 +13,7 @@ use Rattle.rules.specs.declared.Need.{Need}
 use Rattle.rules.specs.declared.Rectangle.{Rectangle}
 use Rattle.rules.specs.Chip.{kind_at, OnChip, rectangle, holds}
 use Rattle.rules.specs.Check.{is_at_most}
-use Rattle.rules.specs.Design.{most_rows}
+use Rattle.rules.specs.Design.{most_rows, lawful_chip}
 use Rattle.rules.proofs.Test.{suits_room, blocks_between}
 use Rattle.rules.proofs.Searching.{same_test}
 use Rattle.rules.proofs.Limits.{chip_limits}
@@ -21,7 +22,6 @@ use Rattle.rules.proofs.Suiting.{suits_decided, at_most_iff}
 use Rattle.holding.specs.Held.{EachUpTo, column_in}
 use Rattle.holding.proofs.Holding.{held_in, none_held, one_more_held, few_held, holds_columns}
 use Rattle.leaves.specs.declared.room.Room.{Room}
-use Rattle.leaves.specs.Leaf.{CornerReady}
 use Rattle.leaves.specs.Room.{as_rows, edge_of, one_each, no_columns, wider, lower, Widens, Lowers}
 use Rattle.leaves.proofs.Edges.{at_edge, block_under, off_edge}
 
@@ -48,15 +48,14 @@ module _ (C : Chip) (c : Corner) (some : 0 < C.block.0) where
   pub room_begins : c.y.0 ≤ C.height.0 → no_columns C.height.0 C.block.0 c.y.0 ≡ room_of C c 0 (C.height.0 - c.y.0)
   unfolding no_columns room_of
   room_begins h =
-      let e : c.y.0 + (C.height.0 - c.y.0) ≡ C.height.0 = omega arith in let z : c.x.0 - c.x.0 ≡ 0 = omega arith in
-      let none : (column : Need) → _ = λ column. rw z at (none_held C column c.x.0) in
+      let e : c.y.0 + (C.height.0 - c.y.0) ≡ C.height.0 = omega arith in
+      let none : (column : Need) → _ = λ column. none_held C column c.x.0 in
       rw e (same_room refl refl refl (none _) (none _))
 
   pub room_wider : (w h : ℕ) → wider (room_of C c w h) (kind_at C (c.x.0 + w)) ≡ room_of C c (suc w) h
   unfolding wider room_of
   room_wider w h =
-      let e : c.x.0 + w - c.x.0 ≡ w = omega arith in let z : c.x.0 + w + 1 - c.x.0 ≡ suc w = omega arith in
-      let more : (column : Need) → _ = λ column. rw (e, z) at (one_more_held C column c.x.0 _ (c.x.0 + w) (omega arith) refl) in
+      let more : (column : Need) → _ = λ column. one_more_held C column c.x.0 _ w refl in
       same_room refl refl refl (more _) (more _)
 
   pub room_lower : (w h : ℕ) → lower C.block.0 (room_of C c w (suc h)) ≡ room_of C c w h
@@ -89,7 +88,7 @@ module _ (C : Chip) (c : Corner) (some : 0 < C.block.0) where
           rw t (same_room one (sub-zero many ∙ sym b) (sym z) refl (λ i. record { clbs = clbs i; rams = held 1 i; multipliers = held 2 i }))
 
 -- a room on the chip is tested by what it holds
-module _ {C : Chip} {c : Corner} (ready : CornerReady C c) where
+module _ (C : Chip) (lawful : So (lawful_chip C)) (c : Corner) where
   pub room_suits : (need : Need) (w h : ℕ) → 1 ≤ w → 1 ≤ h → c.x.0 + w ≤ C.width.0 → c.y.0 + h ≤ C.height.0
       → is_at_most need (room_of C c w h).held ≡ suits_room C need c.x.0 c.y.0 (c.x.0 + w) (c.y.0 + h)
   unfolding room_of
@@ -106,17 +105,17 @@ module _ {C : Chip} {c : Corner} (ready : CornerReady C c) where
       on = record { wide = p; high = q; columns = r; rows = s }
 
       held : holds C (rectangle c.x.0 c.y.0 w h) ≡ held_in C (column_in h (blocks_up C c h)) c.x.0 w
-      held = holds_columns C ready.lawful (rectangle c.x.0 c.y.0 w h) on
+      held = holds_columns C lawful (rectangle c.x.0 c.y.0 w h) on
 
   -- nothing that is carried grows too large, and there is enough to take away
   few_blocks : (h : ℕ) → c.y.0 + h ≤ C.height.0 → blocks_up C c h ≤ most_rows
   unfolding blocks_between
-  few_blocks h p = omega (arith, chip_limits C ready.lawful, div-le_self (c.y.0 + h) C.block.0)
+  few_blocks h p = omega (arith, chip_limits C lawful, div-le_self (c.y.0 + h) C.block.0)
 
   pub room_widens : (w h : ℕ) → c.x.0 + w ≤ C.width.0 → c.y.0 + h ≤ C.height.0 → Widens (room_of C c w h)
   unfolding room_of
   room_widens w h p q =
-      let l = chip_limits C ready.lawful in let b = few_blocks h q in
+      let l = chip_limits C lawful in let b = few_blocks h q in
       let one : EachUpTo most_rows one_each = record { clbs = omega arith; rams = omega arith; multipliers = omega arith } in
       let column : EachUpTo most_rows (column_in h (blocks_up C c h)) = record { clbs = omega arith; rams = b; multipliers = b } in
       record {
@@ -138,7 +137,7 @@ module _ {C : Chip} {c : Corner} (ready : CornerReady C c) where
   }
     where
       some : 0 < C.block.0
-      some = (chip_limits C ready.lawful).some_rows
+      some = (chip_limits C lawful).some_rows
 
       more : (k b : ℕ) → 1 ≤ b → columns_of C k c.x.0 w * 1 ≤ columns_of C k c.x.0 w * b
       more k b p = mul-le-mul (le_refl (columns_of C k c.x.0 w)) p

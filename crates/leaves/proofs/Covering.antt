@@ -1,42 +1,54 @@
--- A leaf's corners: each that has a slot is ready, on the board of the chip's size. Assumes nothing.
-use mathlib.Core.Path.{◌≡◌, sym, subst}
-use mathlib.Core.Bool.{So}
+-- A slot of the work bytes that is written as a slice, and the corners of a node: each that has a slot is ready. Assumes nothing.
+use mathlib.Core.Path.{◌≡◌, ◌∙◌}
+use mathlib.Core.Logic.{◌⊎◌, inl, inr}
 use mathlib.Core.List.{List}
-use Prim.Native.Nat.{ℕ, ◌≤◌, ◌<◌}
+use Prim.Native.Nat.{ℕ, suc, ◌+◌, ◌-◌, ◌≤◌, ◌<◌}
 use native.Mathlib.Omega.{arith}
-use lib.ListN.{length}
-use Rattle.rules.specs.declared.Chip.{Chip}
+use borrow.Rule.Slice.PartMut.{put_mid}
+use lib.ListN.{length, get_or, take, drop, length-append, length-take, length-drop}
+use Rattle.std.proofs.lemmas.List.{length-take-le, get_or_append_left, get_or-append_right, get_or-take, get_or-drop}
 use Rattle.rules.specs.declared.Corner.{Corner}
-use Rattle.rules.specs.declared.Need.{Need}
 use Rattle.rules.specs.Chip.{corner}
-use Rattle.rules.specs.Design.{most_columns, lawful_chip}
-use Rattle.rules.proofs.Limits.{chip_limits}
+use Rattle.rules.specs.Slot.{slot}
 use Rattle.slots.specs.declared.Board.{Board}
-use Rattle.slots.specs.Lent.{ListedOn, SlotOn}
-use Rattle.slots.proofs.Lending.{lent_same, on_board, addressed, slot_lent}
-use Rattle.leaves.specs.Leaf.{leaf_bytes, chip_on, SlotReady, LeafReady, SlotListed}
+use Rattle.slots.specs.Lent.{ListedOn, start_on, Lent, SlotOn}
+use Rattle.slots.proofs.Lending.{on_board, addressed, slot_lent}
+use Rattle.leaves.specs.Leaf.{SlotReady}
 
--- a chip is that of a board of its size, with its blocks and its columns' kinds
-chip_on_lem : {b : Board} {C : Chip} {t : ℕ} {work : List ℕ} → LeafReady b C t work → chip_on b C.block C.kinds ≡ C
-chip_on_lem {C = C} r = λ i. record { width = r.width i; height = r.height i; block = C.block; kinds = C.kinds }
+-- a slice written: as many bytes as there were, its own where it stands, and all others as they were
+module _ (a k : ℕ) (xs ys : List ℕ) (h : a + k ≤ length xs) (e : length ys ≡ k) where
+  put_long : length (put_mid a k xs ys) ≡ length xs
+  put_long = simp (length-append, length-take, length-drop) (omega arith)
 
-pub slot_on : (need : Need) (c : Corner) {b : Board} {C : Chip} {t : ℕ} {work before after : List ℕ} → LeafReady b C t work
-    → SlotListed b C.block C.kinds need t c before after → SlotOn b t c (leaf_bytes C need c) before after
-slot_on need c {b} {t = t} {before = before} {after = after} r z =
-    subst (λ D. SlotOn b t c (leaf_bytes D need c) before after) (chip_on_lem r) z
+  front : length (take a xs) ≡ a
+  front = length-take-le a xs (omega arith)
+
+  put_in : (j : ℕ) → j < k → get_or (put_mid a k xs ys) (a + j) 0 ≡ get_or ys j 0
+  put_in j l =
+      let q : a + j - a ≡ j = omega arith in
+      get_or-append_right (take a xs) _ a (a + j) 0 front (omega arith) ∙ rw q (get_or_append_left ys _ 0 j (omega arith))
+
+  put_out : (i : ℕ) → (i < a) ⊎ (a + k ≤ i) → get_or (put_mid a k xs ys) i 0 ≡ get_or xs i 0
+  put_out i (inl l) = get_or_append_left (take a xs) _ 0 i (omega (arith, front)) ∙ get_or-take a xs i 0 l
+  put_out i (inr l) =
+      let q : a + (k + (i - a - k)) ≡ i = omega arith in
+      get_or-append_right (take a xs) _ a i 0 front (omega arith) ∙ get_or-append_right ys _ k (i - a) 0 e (omega arith)
+      ∙ get_or-drop k (drop a xs) (i - a - k) 0 ∙ get_or-drop a xs (k + (i - a - k)) 0 ∙ rw q
+
+-- the slot's slice written is the slot written
+pub slot_put : (b : Board) (t : ℕ) (c : Corner) {f : ℕ → ℕ} (work slice : List ℕ) {start k : ℕ} → start ≡ start_on b t c → k ≡ b.width.0
+    → start_on b t c + b.width.0 ≤ length work → length slice ≡ b.width.0 → ((j : ℕ) → j < b.width.0 → get_or slice j 0 ≡ f j)
+    → SlotOn b t c f work (put_mid start k work slice)
+unfolding slot
+slot_put b t c work slice es ek h e is = rw (es, ek) (record {
+  long = put_long (start_on b t c) b.width.0 work slice h e;
+  inside = λ j l. put_in (start_on b t c) b.width.0 work slice h e j l ∙ is j l;
+  outside = λ i o. put_out (start_on b t c) b.width.0 work slice h e i o;
+})
 
 -- each corner that has a slot is ready
-pub corner_ready : {b : Board} {C : Chip} {t : ℕ} {work : List ℕ} (x y : ℕ) → x < b.width.0 → y < b.listed.0
-    → most_columns ≤ length C.kinds → LeafReady b C t work → SlotReady b (chip_on b C.block C.kinds) t (corner x y) work
-corner_ready {b} {C} {t} x y hx hy long r =
+pub corner_ready : {b : Board} {t : ℕ} {work : List ℕ} (x y : ℕ) → x < b.width.0 → y < b.listed.0 → Lent b (suc t) work
+    → SlotReady b t (corner x y) work
+corner_ready {b} {t} x y hx hy lent =
     let on : ListedOn b (corner x y) = record { column = hx; row = hy } in
-    let lawful = subst (λ D. So (lawful_chip D)) (sym (chip_on_lem r)) r.lawful in
-    let l = chip_limits (chip_on b C.block C.kinds) lawful in
-    record {
-      at = record { lawful = lawful; kinds = omega arith; corner = on_board r.lent on };
-      address = addressed r.lent t (omega arith) on;
-      slot = slot_lent r.lent t (omega arith) on;
-    }
-
-pub still_ready : {b : Board} {C : Chip} {t : ℕ} {work work' : List ℕ} → length work' ≡ length work → LeafReady b C t work → LeafReady b C t work'
-still_ready e r = record { lawful = r.lawful; width = r.width; height = r.height; lent = lent_same r.lent e }
+    record { corner = on_board lent on; address = addressed lent t (omega arith) on; slot = slot_lent lent t (omega arith) on }

@@ -1,11 +1,11 @@
 -- What the walk carries, and its two steps: what a column adds to the room, and what a row takes away from it.
 use Rattle.std.specs.Prelude.{◌≡◌, Bool, true, false, ℕ, ◌-◌, ◌*◌, ◌/◌, ◌≤◌, ◌<◌, ltb, eqb}
+use Rattle.rules.specs.declared.Chip.{Chip}
 use Rattle.rules.specs.declared.Need.{Need}
 use Rattle.rules.specs.declared.Rows.{Rows}
 use Rattle.rules.specs.Design.{most_columns, most_rows, no_need}
 use Rattle.rules.proofs.Test.{only_if, blocks_between}
 use Rattle.holding.specs.Held.{EachUpTo, with_column, column_in}
-use Rattle.slots.specs.declared.Board.{Board}
 use Rattle.leaves.specs.declared.room.Room.{Room}
 
 abbrev pub as_rows : ℕ → Rows
@@ -73,11 +73,11 @@ lower B r = record {
 }
 
 -- what these ask for: a row of a chip within the limits; numbers small enough to add; and enough to take away from
-pub record Standing (b : Board) (B y : ℕ) : Type 0 where
-  pub block : 1 ≤ B
-  pub blocks : B ≤ most_rows
-  pub row : y < b.height.0
-  pub rows : b.height.0 ≤ most_rows
+pub record Standing (C : Chip) (y : ℕ) : Type 0 where
+  pub block : 1 ≤ C.block.0
+  pub blocks : C.block.0 ≤ most_rows
+  pub row : y < C.height.0
+  pub rows : C.height.0 ≤ most_rows
 
 pub record Widens (r : Room) : Type 0 where
   pub rows : r.rows.0 ≤ most_rows

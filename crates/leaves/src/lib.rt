@@ -1,104 +1,84 @@
-// A leaf's slot at one corner, listed from its need by the walk along the stair.
+// A leaf's lists, from its need: at each corner by the walk along the stair.
 #![tactic(auto)]
 
 mod room;
 
-ghost use Rattle.std.specs.Prelude.{◌<◌};
+ghost use Rattle.std.specs.Prelude.{◌≡◌, suc, ◌<◌};
+ghost use Rattle.std.proofs.Math.Bool.{So};
+ghost use Rattle.rules.specs.Design.{lawful_chip};
 ghost use Rattle.leaves.specs.Step.{Steppable, Stepped};
-ghost use Rattle.leaves.specs.Leaf.{chip_on, SlotReady, WalkReady, LeafReady, SlotListed, RowListed, NodeListed};
+ghost use Rattle.leaves.specs.Leaf.{leaf_bytes, WalkReady, SlotReady, LeafReady, Listed, RowListed, NodeListed};
+ghost use Rattle.slots.specs.Lent.{Lent, SlotOn};
 
 use holding::is_at_most;
-use room::{Room, lower, no_columns, wider};
+use room::Room;
 use rules::{Chip, Columns, Corner, Need, Rows};
-use slots::{Board, clear, slot_start};
+use slots::{Board, slot_start};
 
-// What stepping down leaves: a room that no longer suits, or no rows.
+// A leaf, as it is listed: on a board of its chip's size, by what its module needs, in the slots of node t.
 #[derive(Clone, Copy)]
-enum Step {
-    At(Room),
-    UsedUp,
-}
-
-// Steps down while the room still suits, and keeps the last height that suited.
-fn step_down(work: &mut [u8], place: usize, from: Room, need: Need, block: Rows) -> Step
-    requires { Steppable block.0 place from work.old }
-    ensures { Stepped need block.0 place from work.old work.new result }
-{
-    let mut room = from;
-    while is_at_most(need, room.held) {
-        work[place] = room.rows.0 as u8;
-        room = lower(room, block);
-        if room.rows.0 == 0 {
-            return Step::UsedUp;
-        }
-    }
-    Step::At(room)
-}
-
-// The walk along the stair, in a slot that is cleared: from one column at full height it steps down while the room
-// still suits, and otherwise adds a column, until columns or rows are used up.
-fn walk(
-    work: &mut [u8],
+struct Leaf<'a> {
     board: Board,
-    block: Rows,
-    kinds: &[u8],
+    chip: &'a Chip,
     need: Need,
     t: usize,
-    at: Corner,
-    start: usize,
-)
-    requires { WalkReady board (chip_on board block kinds.now) t at start work.old }
-    ensures { SlotListed board block kinds.now need t at work.old work.new }
-{
-    let mut room = no_columns(board, block, at.y);
-    let mut j = 0;
-    while at.x.0 + j < board.width.0 {
-        let x = at.x.0 + j;
-        match step_down(work, start + j, wider(room, kinds[x]), need, block) {
-            Step::At(left) => {
-                room = left;
+    ghost lawful: { So (lawful_chip chip.now) },
+    ghost width: { board.width ≡ chip.now.width },
+    ghost height: { board.height ≡ chip.now.height },
+}
+
+impl Leaf<'_> {
+    // Steps down while the room still suits, and keeps the last height that suited. None is left once the rows are used up.
+    fn step_down(&self, height: &mut u8, from: Room) -> Option<Room>
+        requires { Steppable self.now.chip.now.block.0 from }
+        ensures { Stepped self.now.need self.now.chip.now.block.0 from height.old height.new result }
+    {
+        let mut room = from;
+        while is_at_most(self.need, room.held) {
+            *height = room.rows.0 as u8;
+            room = room.lower(self.chip.block);
+            if room.rows.0 == 0 {
+                return None;
             }
-            Step::UsedUp => {
+        }
+        Some(room)
+    }
+
+    // The walk along the stair, in a slot that is cleared: from one column at full height it steps down while the room
+    // still suits, and otherwise adds a column, until columns or rows are used up.
+    fn walk(&self, slot: &mut [u8], at: Corner)
+        requires { WalkReady self.now.chip.now at slot.old }
+        ensures { Listed self.now.chip.now self.now.need at slot.old slot.new }
+    {
+        let mut room = Room::no_columns(self.chip, at.y);
+        let kinds = &self.chip.kinds[..];
+        for (j, kind) in kinds[at.x.0..self.chip.width.0].iter().enumerate() {
+            let Some(left) = self.step_down(&mut slot[j], room.wider(*kind)) else {
                 return;
-            }
+            };
+            room = left;
         }
-        j += 1;
     }
-}
 
-// Lists the shapes of a leaf at a corner, in the slot of node t.
-fn leaf_slot(
-    work: &mut [u8],
-    board: Board,
-    block: Rows,
-    kinds: &[u8],
-    need: Need,
-    t: usize,
-    at: Corner,
-)
-    requires { SlotReady board (chip_on board block kinds.now) t at work.old }
-    ensures { SlotListed board block kinds.now need t at work.old work.new }
-{
-    let start = slot_start(board, t, at);
-    clear(work, start, board.width);
-    walk(work, board, block, kinds, need, t, at, start);
-}
+    // Lists the shapes at a corner, in the node's slot there.
+    fn list_slot(&self, work: &mut [u8], at: Corner)
+        requires { SlotReady self.now.board self.now.t at work.old }
+        ensures { SlotOn self.now.board self.now.t at (leaf_bytes self.now.chip.now self.now.need at) work.old work.new }
+    {
+        let start = slot_start(self.board, self.t, at);
+        let slot = &mut work[start..start + self.board.width.0];
+        slot.fill(0);
+        self.walk(slot, at);
+    }
 
-// Lists the corners of a leaf in one row.
-fn leaf_row(work: &mut [u8], board: Board, chip: Chip, need: Need, t: usize, y: Rows)
-    requires { LeafReady board chip t work.old × (y.0 < board.listed.0) }
-    ensures { RowListed board chip need t y.0 work.old work.new }
-{
-    for x in 0..board.width.0 {
-        leaf_slot(
-            work,
-            board,
-            chip.block,
-            &chip.kinds,
-            need,
-            t,
-            Corner { x: Columns(x), y },
-        );
+    // Lists the corners in one row.
+    fn list_row(&self, work: &mut [u8], y: Rows)
+        requires { Lent self.now.board (suc self.now.t) work.old × (y.0 < self.now.board.listed.0) }
+        ensures { RowListed self.now.board self.now.chip.now self.now.need self.now.t y.0 work.old work.new }
+    {
+        for x in 0..self.board.width.0 {
+            self.list_slot(work, Corner { x: Columns(x), y });
+        }
     }
 }
 
@@ -107,7 +87,13 @@ pub fn leaf_node(work: &mut [u8], board: Board, chip: Chip, need: Need, t: usize
     requires { LeafReady board chip t work.old }
     ensures { NodeListed board chip need t work.old work.new }
 {
+    let leaf = Leaf {
+        board,
+        chip: &chip,
+        need,
+        t,
+    };
     for y in 0..board.listed.0 {
-        leaf_row(work, board, chip, need, t, Rows(y));
+        leaf.list_row(work, Rows(y));
     }
 }
