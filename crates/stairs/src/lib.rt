@@ -1,76 +1,63 @@
 // The stair test that place and edit run over every slot in the work bytes.
 #![tactic(auto)]
 
-ghost use Rattle.std.specs.Prelude.{◌≡◌, suc, ◌+◌, ◌-◌, ◌≤◌, ◌<◌, min, length};
+ghost use Rattle.std.specs.Prelude.{◌≡◌, suc, ◌+◌, ◌≤◌, ◌<◌, length};
 ghost use Rattle.rules.specs.Search.{all};
 ghost use Rattle.rules.specs.Design.{most_rows};
 ghost use Rattle.rules.proofs.Test.{is_stair};
-ghost use Rattle.slots.specs.Lent.{OnBoard, slots_on, bytes_from, Lent};
-ghost use Rattle.stairs.specs.Walk.{zero_at, low_after, row_stairs, node_stairs, stairs_on};
+ghost use Rattle.slots.specs.Lent.{OnBoard, slots_on, Lent};
+ghost use Rattle.stairs.specs.Walk.{byte_at, zero_at, low_left, low_after, row_stairs, node_stairs, stairs_on};
 
 use rules::{Columns, Corner, Rows};
 use slots::Board;
 
-// The eight bytes from a place on are all zero.
-fn all_zero(work: &[u8], from: usize) -> bool
-    requires { from + 8 ≤ length work.now }
-    ensures { result ≡ all 8 (zero_at work.now from) }
+// All of these bytes are zero.
+fn all_zero(bytes: &[u8]) -> bool
+    ensures { result ≡ all (length bytes.now) (zero_at bytes.now) }
 {
     let mut zero = true;
-    for i in 0..8 {
-        zero = zero & (work[from + i] == 0);
+    for byte in bytes {
+        zero = zero & (*byte == 0);
     }
     zero
 }
 
-// The lesser of two places.
-fn lesser(a: usize, b: usize) -> usize
-    ensures { result ≡ min a b }
-{
-    if a < b { a } else { b }
-}
-
-// The height that the next nonzero byte has to stay below, after a slot's bytes from start to before end; 0 if they are no stair.
-fn walk(work: &[u8], from: usize, columns: usize, start: usize, end: usize, first: u8) -> u8
-    requires { (from + end ≤ length work.now) × (start ≤ end) }
-    ensures { result ≡ low_after columns (bytes_from work.now from) start (end - start) first }
+// The height that the next nonzero byte has to stay below, after these bytes of a slot, so many columns of which are still on the chip; none if
+// they are no stair.
+fn walk(bytes: &[u8], columns: usize, first: u8) -> Option<u8>
+    requires { 0 < first }
+    ensures { result ≡ low_left (low_after columns (byte_at bytes.now) 0 (length bytes.now) first) }
 {
     let mut low = first;
-    for j in start..end {
-        let byte = work[from + j];
-        if byte != 0 {
+    for (j, byte) in bytes.iter().enumerate() {
+        if *byte != 0 {
             if columns <= j {
-                return 0;
+                return None;
             }
-            if low <= byte {
-                return 0;
+            if low <= *byte {
+                return None;
             }
-            low = byte;
+            low = *byte;
         }
     }
-    low
+    Some(low)
 }
 
-// The slot that starts at a place is a stair for this corner. Most bytes of a slot are zero: they are passed eight at a time.
-fn is_stair(work: &[u8], from: usize, board: Board, at: Corner) -> bool
-    requires { (from + board.width.0 ≤ length work.now) × OnBoard board at × (board.height.0 ≤ most_rows) }
-    ensures { result ≡ is_stair board.width.0 board.height.0 at (bytes_from work.now from) }
+// The slot is a stair for this corner. Most bytes of a slot are zero: they are passed eight at a time.
+fn is_stair(slot: &[u8], board: Board, at: Corner) -> bool
+    requires { (length slot.now ≡ board.width.0) × OnBoard board at × (board.height.0 ≤ most_rows) }
+    ensures { result ≡ is_stair board.width.0 board.height.0 at (byte_at slot.now) }
 {
-    let width = board.width.0;
-    let columns = width - at.x.0;
+    let mut columns = board.width.0 - at.x.0;
     let mut low = (board.height.0 - at.y.0 + 1) as u8;
-    let mut j: usize = 0;
-    while j < width {
-        if j + 8 <= width && all_zero(work, from + j) {
-            j += 8;
-        } else {
-            let end = lesser(j + 8, width);
-            low = walk(work, from, columns, j, end, low);
-            if low == 0 {
+    for part in slot.chunks(8) {
+        if !all_zero(part) {
+            let Some(next) = walk(part, columns, low) else {
                 return false;
-            }
-            j = end;
+            };
+            low = next;
         }
+        columns = columns.saturating_sub(part.len());
     }
     true
 }
@@ -83,7 +70,8 @@ fn row_stairs(work: &[u8], board: Board, t: usize, y: Rows) -> bool
     let width = board.width.0;
     for x in 0..width {
         let at = Corner { x: Columns(x), y };
-        if !is_stair(work, slots::slot_start(board, t, at), board, at) {
+        let start = slots::slot_start(board, t, at);
+        if !is_stair(&work[start..start + width], board, at) {
             return false;
         }
     }
