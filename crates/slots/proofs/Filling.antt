@@ -1,14 +1,16 @@
 -- A run of bytes written one after the other: each stands where it was put, and nothing else has changed. Assumes nothing.
-use mathlib.Core.Path.{◌≡◌, refl, ◌∙◌, ap}
+use mathlib.Core.Path.{◌≡◌, refl, sym, ◌∙◌, ap}
 use mathlib.Core.Logic.{◌⊎◌, inl, inr, ⊎_elim}
 use mathlib.Core.List.{List}
-use Prim.Native.Nat.{ℕ, zero, suc, ◌+◌, ◌≤◌, ◌<◌}
+use Prim.Native.Nat.{ℕ, zero, suc, ◌+◌, ◌-◌, ◌≤◌, ◌<◌}
 use native.Mathlib.Omega.{arith}
 use native.Mathlib.Numerals.{add-one}
 use native.Mathlib.Nat.{add-zero, add_assoc, add-suc}
 use native.Mathlib.Decide.{dec_lt}
 use lib.ListN.{length, get_or, set, length-set}
 use lib.Seq.{get_or-set_same, get_or-set_other}
+use borrow.Rule.Slice.PartMut.{put_mid}
+use Rattle.std.proofs.lemmas.List.{ext_get_or, places}
 use Rattle.rules.specs.declared.Corner.{Corner}
 use Rattle.rules.specs.Slot.{slot, slot_start}
 use Rattle.slots.specs.Written.{over, Filled, SlotIs}
@@ -67,6 +69,31 @@ filled_at {v} {w} {a} {n} {f} e l k h = ap (λ x. get_or x (a + k) 0) e.is ∙ o
 
 pub filled_out : {v w : List ℕ} {a n : ℕ} {f : ℕ → ℕ} → Filled w a n f v → (i : ℕ) → (i < a) ⊎ (a + n ≤ i) → get_or v i 0 ≡ get_or w i 0
 filled_out {v} {w} {a} {n} {f} e i h = ap (λ x. get_or x i 0) e.is ∙ over_out w a n f i h
+
+-- a run written at once
+pub run_filled : {w : List ℕ} (ys : List ℕ) {a m n : ℕ} {f : ℕ → ℕ} → a + n ≤ length w → m ≡ n → length ys ≡ n → ((k : ℕ) → k < n → get_or ys k 0 ≡ f k)
+    → Filled w a n f (put_mid a m w ys)
+run_filled {w} ys {a} {m} {n} {f} l e q h = record { is = ext_get_or 0 (put_mid a m w ys) (over w a n f) (long ∙ sym (length_over w a n f)) at }
+  where
+    long : length (put_mid a m w ys) ≡ length w
+    long = search (arith, places)
+
+    inner : (i : ℕ) → a ≤ i → i < a + n → get_or (put_mid a m w ys) i 0 ≡ f (i - a)
+    inner i p r = let z : i - a < n = omega arith in search (arith, places, h (i - a))
+
+    outer : (i : ℕ) → (i < a) ⊎ (a + n ≤ i) → get_or (put_mid a m w ys) i 0 ≡ get_or w i 0
+    outer i (inl p) = search (arith, places)
+    outer i (inr p) = search (arith, places)
+
+    at : (i : ℕ) → i < length (put_mid a m w ys) → get_or (put_mid a m w ys) i 0 ≡ get_or (over w a n f) i 0
+    at i p = go (dec_lt i a) (dec_lt i (a + n))
+      where
+        go : Dec (i < a) → Dec (i < a + n) → get_or (put_mid a m w ys) i 0 ≡ get_or (over w a n f) i 0
+        go (yes u) v = outer i (inl u) ∙ sym (over_out w a n f i (inl u))
+        go (no u) (no v) = outer i (inr (omega arith)) ∙ sym (over_out w a n f i (inr (omega arith)))
+        go (no u) (yes v) =
+            let z : a + (i - a) ≡ i = omega arith in
+            inner i (omega arith) v ∙ sym (rw z at (over_in w a n f (i - a) (omega arith) l))
 
 -- a whole slot filled is the slot written
 pub slot_filled : (W R t : ℕ) (c : Corner) (f : ℕ → ℕ) (before after : List ℕ) → slot_start W R t c + W ≤ length before

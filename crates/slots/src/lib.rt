@@ -43,7 +43,5 @@ pub fn clear(work: &mut [u8], start: usize, width: Columns)
     requires { (start + width.0 ≤ length work.old) × (start + width.0 ≤ most_work) }
     ensures { Filled work.old start width.0 none work.new }
 {
-    for j in 0..width.0 {
-        work[start + j] = 0;
-    }
+    work[start..start + width.0].fill(0);
 }

@@ -1,18 +1,17 @@
--- `slots::clear` meets its contract. The loop's invariant: the first j bytes are cleared. The measure is how many are left. Assumes nothing.
-use mathlib.Core.Path.{◌≡◌, refl}
+-- `slots::clear` meets its contract: the run of bytes that is filled is the slot. Assumes nothing.
+use mathlib.Core.Path.{◌≡◌, ◌∙◌, ap}
+use Prim.Native.Nat.{◌-◌, ◌+◌}
 use native.Mathlib.Omega.{arith}
-use borrow.Author.Rules.{rules}
-use Rattle.slots.proofs.Filling.{none_filled, one_filled, same_length as same_long}
+use borrow.Rule.Slice.PartMut.{mid_of}
+use lib.ListN.{length, get_or, get_or-replicate}
+use Rattle.std.proofs.lemmas.List.{places}
+use Rattle.slots.proofs.Filling.{run_filled}
 use Rattle.slots.proofs.clear.Goals as goal
 
-pub loop-j-init : goal.loop-j-init
-loop-j-init c = (search rules, none_filled)
-
-pub bounds-work-start : goal.bounds-work-start
-bounds-work-start c = omega (arith, same_long c.loop-j.invariant.1)
-
-pub loop-j-preserved : goal.loop-j-preserved
-loop-j-preserved c = (omega arith, one_filled c.loop-j.invariant.1 refl)
-
 pub returns : goal.returns
-returns c = let l = c.loop-j in let e : l.j ≡ c.args.width.0 = omega arith in rw e at l.invariant.1
+returns c =
+    let a = c.args in
+    let long : length (mid_of a.start (a.start + a.width.0 - a.start) a.work.now) ≡ a.width.0 = search (arith, places) in
+    let zeros = c.fill.ensures.after (λ y e. e) in
+    run_filled c.fill.new.self (omega arith) (omega arith) (omega (arith, long, c.fill.ensures.len))
+    (λ k h. ap (λ w. get_or w k 0) zeros ∙ get_or-replicate _ k 0 0 (omega (arith, long)))
