@@ -21,6 +21,7 @@ use Rattle.slots.specs.declared.Board.{Board}
 use Rattle.slots.specs.Written.{SlotIs, PartIs}
 use Rattle.slots.specs.Lent.{OnBoard, ListedOn, slots_on, SlotOn, PartOn, NodeOn}
 use Rattle.slots.proofs.Writing.{SameCorner, same_corner, one_done, all_done}
+use Rattle.cuts.specs.declared.Cut.{Cut}
 use Rattle.cuts.specs.Cut.{paired_slot, corner_at, line_of, place_of, lines, places, line_top, held_top, LineFilled, least_top, laid_slot, on_line, before_line}
 use Rattle.cuts.proofs.Least.{least_same}
 use Rattle.cuts.proofs.Tops.{laid_paired, filled_tops}
@@ -56,17 +57,17 @@ part_then {W} {H} {t} {f} {f'} {done} {done'} {before} {mid} {after} all p q out
 }
 
 -- a cut's slot hangs on its children's bytes alone
-pub paired_same : (d : Direction) (B : Board) → B.height.0 ≤ B.listed.0 → (work work' : List ℕ) (left right : ℕ)
-    → Agree B.width.0 B.listed.0 (slots_on B work left) (slots_on B work' left)
-    → Agree B.width.0 B.listed.0 (slots_on B work right) (slots_on B work' right) → (c : Corner) → OnBoard B c → (j : ℕ) → j < B.width.0
-    → paired_slot d B work left right c j ≡ paired_slot d B work' left right c j
+pub paired_same : (cut : Cut) → let B = cut.board in B.height.0 ≤ B.listed.0 → (work work' : List ℕ)
+    → Agree B.width.0 B.listed.0 (slots_on B work cut.left) (slots_on B work' cut.left)
+    → Agree B.width.0 B.listed.0 (slots_on B work cut.right) (slots_on B work' cut.right) → (c : Corner) → OnBoard B c → (j : ℕ) → j < B.width.0
+    → paired_slot cut work c j ≡ paired_slot cut work' c j
 unfolding paired_slot
-paired_same d B every work work' left right l r c on =
-    let W = B.width.0 in let H = B.height.0 in let l' = agree_on every l in let r' = agree_on every r in
-    list_unique W (paired_slot d B work left right c) (paired_slot d B work' left right c)
-    (same_list W (paired_slot d B work left right c) (paired_slot d B work left right c) (λ j h. refl) (λ s. (paired_agree W H d l' r' c on s, paired_agree W H d (agree_back l') (agree_back r') c on s))
-    (pairings_bytes W H d (slots_on B work left) (slots_on B work right) c))
-    (pairings_bytes W H d (slots_on B work' left) (slots_on B work' right) c)
+paired_same cut every work work' l r c on =
+    let B = cut.board in let W = B.width.0 in let H = B.height.0 in let d = cut.direction in let l' = agree_on every l in let r' = agree_on every r in
+    list_unique W (paired_slot cut work c) (paired_slot cut work' c)
+    (same_list W (paired_slot cut work c) (paired_slot cut work c) (λ j h. refl) (λ s. (paired_agree W H d l' r' c on s, paired_agree W H d (agree_back l') (agree_back r') c on s))
+    (pairings_bytes W H d (slots_on B work cut.left) (slots_on B work cut.right) c))
+    (pairings_bytes W H d (slots_on B work' cut.left) (slots_on B work' cut.right) c)
 
 -- a corner is at its place on its line
 at_place : (d : Direction) (on p : ℕ) → (line_of d (corner_at d on p) ≡ on) × (place_of d (corner_at d on p) ≡ p)
@@ -85,31 +86,30 @@ on_line_lem Horizontal W H c on = (on.column, on.row)
 
 -- the slot that is laid at a corner of the line, from the bytes as they now stand, is the one that the bytes at the
 -- start ask for
-pub slot_laid : (d : Direction) (B : Board) (t left right on p : ℕ) (start work : List ℕ) {c : Corner} {after line : List ℕ} → LineFilled d B (slots_on B start right) on (places d B) line
+pub slot_laid : (cut : Cut) (on p : ℕ) (start work : List ℕ) {c : Corner} {after line : List ℕ}
+    → let B = cut.board in let d = cut.direction in LineFilled d B (slots_on B start cut.right) on (places d B) line
     → c ≡ corner_at d on p → OnBoard B c → ListedOn B c
-    → Agree B.width.0 B.listed.0 (slots_on B work left) (slots_on B start left)
-    → SlotOn B t c (laid_slot d B (held_top line) c (slots_on B work left c)) work after
-    → SlotOn B t c (paired_slot d B start left right c) work after
+    → Agree B.width.0 B.listed.0 (slots_on B work cut.left) (slots_on B start cut.left)
+    → SlotOn B cut.t c (laid_slot d B (held_top line) c (slots_on B work cut.left c)) work after
+    → SlotOn B cut.t c (paired_slot cut start c) work after
 unfolding paired_slot laid_slot least_top
-slot_laid d B t left right on p start work {c} {after} {line} l e o o' a z = record { long = z.long; inside = λ j h. z.inside j h ∙ is j; outside = z.outside }
+slot_laid cut on p start work {c} {after} {line} l e o o' a z = record { long = z.long; inside = λ j h. z.inside j h ∙ is j; outside = z.outside }
   where
-    n : ℕ
-    n = B.width.0 - c.x.0
+    l' : LineFilled cut.direction cut.board (slots_on cut.board start cut.right) (line_of cut.direction c) (places cut.direction cut.board) line
+    l' = let q : line_of cut.direction c ≡ on = rw e (at_place cut.direction on p).0 in rw q l
 
-    l' : LineFilled d B (slots_on B start right) (line_of d c) (places d B) line
-    l' = let q : line_of d c ≡ on = rw e (at_place d on p).0 in rw q l
-
-    tops_are : (b : ℕ)
-        → least_top d B (held_top line) c (slots_on B work left c) n b ≡ least_top d B (line_top d B (slots_on B start right) (line_of d c)) c (slots_on B start left c) n b
+    -- the least top side before the right side b, of all left shapes
+    tops_are : (b : ℕ) → let tops = λ (held : ℕ → ℕ → ℕ) (slots : List ℕ). least_top cut.direction cut.board held c (slots_on cut.board slots cut.left c) (cut.board.width.0 - c.x.0) b in
+        tops (held_top line) work ≡ tops (line_top cut.direction cut.board (slots_on cut.board start cut.right) (line_of cut.direction c)) start
     tops_are b =
-        least_same _ _ _ n (λ i k. rw (a.at c o' i (omega arith)))
-        ∙ filled_tops d B (slots_on B start right) c line l' (slots_on B start left c) n b
+        least_same _ _ _ (cut.board.width.0 - c.x.0) (λ i k. rw (a.at c o' i (omega arith)))
+        ∙ filled_tops cut.direction cut.board (slots_on cut.board start cut.right) c line l' (slots_on cut.board start cut.left c) (cut.board.width.0 - c.x.0) b
 
-    is : (j : ℕ)
-        → laid_slot d B (held_top line) c (slots_on B work left c) j ≡ paired_slot d B start left right c j
+    is : (j : ℕ) → laid_slot cut.direction cut.board (held_top line) c (slots_on cut.board work cut.left c) j ≡ paired_slot cut start c j
     is j =
         let r = o.row in
-        rw (tops_are (c.x.0 + j), tops_are (c.x.0 + suc j)) (laid_paired d B (slots_on B start left) (slots_on B start right) c j (omega arith))
+        rw (tops_are (c.x.0 + j), tops_are (c.x.0 + suc j))
+        (laid_paired cut.direction cut.board (slots_on cut.board start cut.left) (slots_on cut.board start cut.right) c j (omega arith))
 
 -- the corners of a line one after the other
 module _ (d : Direction) (W H t on : ℕ) (f : Corner → ℕ → ℕ) where
@@ -131,19 +131,28 @@ module _ (d : Direction) (W H t on : ℕ) (f : Corner → ℕ → ℕ) where
       out c' a b (no h) = inl (simp test-iffs (a, omega arith))
 
 -- the lines one after the other
-module _ (d : Direction) (B : Board) (t left right : ℕ) (start : List ℕ) (chip : B.listed.0 ≤ B.height.0) where
+module _ (cut : Cut) (start : List ℕ) (chip : cut.board.listed.0 ≤ cut.board.height.0) where
+  abbrev d : Direction
+  d = cut.direction
+
+  abbrev B : Board
+  B = cut.board
+
+  abbrev t : ℕ
+  t = cut.t
+
   abbrev slots : Corner → ℕ → ℕ
-  slots = paired_slot d B start left right
+  slots = paired_slot cut start
 
   pub no_line : PartOn B t slots (before_line d 0) start start
   no_line = record { long = refl; inside = λ c _ s. let h = simp test-iffs at s in absurd (omega arith); outside = λ i h. refl }
 
-  pub line_done : (on : ℕ) {mid after : List ℕ} → B.height.0 ≤ B.listed.0 → left < t → right < t → PartOn B t slots (before_line d on) start mid
-      → PartOn B t (paired_slot d B mid left right) (on_line d on (places d B)) mid after → PartOn B t slots (before_line d (on + 1)) start after
+  pub line_done : (on : ℕ) {mid after : List ℕ} → B.height.0 ≤ B.listed.0 → cut.left < t → cut.right < t → PartOn B t slots (before_line d on) start mid
+      → PartOn B t (paired_slot cut mid) (on_line d on (places d B)) mid after → PartOn B t slots (before_line d (on + 1)) start after
   line_done on {mid} {after} every l r p q =
       part_then (before_line d (on + 1)) p q (λ c o s. let h = simp test-iffs at s in out c o h (ℕ_discrete (line_of d c) on))
       (λ c s. let h = simp test-iffs at s in simp test-iffs (omega arith)) (λ c s. let (a, b) = simp test-iffs at s in simp test-iffs (omega arith))
-      (λ c o. paired_same d B every mid start left right (node_kept p left (λ e. omega arith)) (node_kept p right (λ e. omega arith)) c (on_more_rows chip o))
+      (λ c o. paired_same cut every mid start (node_kept p cut.left (λ e. omega arith)) (node_kept p cut.right (λ e. omega arith)) c (on_more_rows chip o))
     where
       out : (c : Corner) → ListedOn B c → line_of d c < on + 1 → Dec (line_of d c ≡ on) → So (before_line d on c) ⊎ So (on_line d on (places d B) c)
       out c o h (yes e) = inr (simp test-iffs (e, (on_line_lem d B.width.0 B.height.0 c (on_more_rows chip o)).1))

@@ -11,18 +11,19 @@ use Rattle.rules.proofs.Test.{grid, across, only_if, list_byte, pair_test}
 use Rattle.slots.specs.declared.Board.{Board}
 use Rattle.slots.specs.Written.{Filled}
 use Rattle.slots.specs.Lent.{OnBoard, slots_on, bytes_from, Lent, SlotOn, PartOn, NodeOn}
+use Rattle.cuts.specs.declared.Cut.{Cut}
 
 -- what a cut's slots ask: its children are nodes before it
-pub record Cuttable (board : Board) (t left right : ℕ) (work : List ℕ) : Type 0 where
-  pub lent : Lent board (suc t) work
-  pub first : left < t
-  pub second : right < t
+pub record Cuttable (cut : Cut) (work : List ℕ) : Type 0 where
+  pub lent : Lent cut.board (suc cut.t) work
+  pub first : cut.left < cut.t
+  pub second : cut.right < cut.t
 
 -- the slots that a cut node is to have, from its children's: "the undominated ones among all pairings of the children's stored shapes"
-unfoldable pub paired_slot : Direction → Board → List ℕ → ℕ → ℕ → Corner → ℕ → ℕ
-paired_slot d B work left right c =
-    let W = B.width.0 in let H = B.height.0 in
-    list_byte H (pair_test d W H (grid (slots_on B work left)) (grid (slots_on B work right))) c.x.0 c.y.0
+unfoldable pub paired_slot : Cut → List ℕ → Corner → ℕ → ℕ
+paired_slot cut work c =
+    let W = cut.board.width.0 in let H = cut.board.height.0 in
+    list_byte H (pair_test cut.direction W H (grid (slots_on cut.board work cut.left)) (grid (slots_on cut.board work cut.right))) c.x.0 c.y.0
 
 -- The sizes of the code's buffers. A line has as many places as the chip has columns or rows. `chunk` top sides are
 -- laid at a time, so a filled slot and a corner's top sides have that many bytes more than there are right sides.
@@ -209,9 +210,9 @@ SlotKept base n c tops before after =
     Filled before base n (λ j. kept_byte c.y.0 (get_or tops (c.x.0 + j) 0) (get_or tops (c.x.0 + suc j) 0)) after
 
 -- the slot of a cut node at a corner is written from a filled line
-abbrev pub CornerCut : Direction → Board → List ℕ → ℕ → ℕ → Corner → List ℕ → List ℕ → Type 0
-CornerCut d B line t left c before after =
-    SlotOn B t c (laid_slot d B (held_top line) c (slots_on B before left c)) before after
+abbrev pub CornerCut : Cut → List ℕ → Corner → List ℕ → List ℕ → Type 0
+CornerCut cut line c before after =
+    SlotOn cut.board cut.t c (laid_slot cut.direction cut.board (held_top line) c (slots_on cut.board before cut.left c)) before after
 
 -- the corners at the first n places of a line, and those of all lines before one
 abbrev pub on_line : Direction → ℕ → ℕ → Corner → Bool
@@ -221,10 +222,9 @@ abbrev pub before_line : Direction → ℕ → Corner → Bool
 before_line d line c = ltb (line_of d c) line
 
 -- the slots of a cut node are those of its children's pairings, at the corners of a line, and at all
-abbrev pub LineCut : Direction → Board → ℕ → ℕ → ℕ → ℕ → List ℕ → List ℕ → Type 0
-LineCut d B t left right line before after =
-    PartOn B t (paired_slot d B before left right) (on_line d line (places d B)) before after
+abbrev pub LineCut : Cut → ℕ → List ℕ → List ℕ → Type 0
+LineCut cut line before after =
+    PartOn cut.board cut.t (paired_slot cut before) (on_line cut.direction line (places cut.direction cut.board)) before after
 
-abbrev pub NodeCut : Direction → Board → ℕ → ℕ → ℕ → List ℕ → List ℕ → Type 0
-NodeCut d B t left right before after =
-    NodeOn B t (paired_slot d B before left right) before after
+abbrev pub NodeCut : Cut → List ℕ → List ℕ → Type 0
+NodeCut cut before after = NodeOn cut.board cut.t (paired_slot cut before) before after

@@ -65,59 +65,74 @@ fn lowered_by(low: u8, height: u8) -> u8
     if height == 0 { low } else { lower(low, height) }
 }
 
-// How many places a line has.
-fn places(direction: Direction, board: Board) -> Place
-    ensures { result.0 ≡ places direction board }
-{
-    match direction {
-        Direction::Vertical => Place(board.width.0),
-        Direction::Horizontal => Place(board.height.0),
-    }
+// A cut node: the chip, the way it cuts, and which nodes it and its children are.
+#[derive(Clone, Copy)]
+pub struct Cut {
+    pub board: Board,
+    pub direction: Direction,
+    pub t: usize,
+    pub left: usize,
+    pub right: usize,
 }
 
-// How many lines there are.
-fn lines(direction: Direction, board: Board) -> Line
-    ensures { result.0 ≡ lines direction board }
-{
-    match direction {
-        Direction::Vertical => Line(board.height.0),
-        Direction::Horizontal => Line(board.width.0),
+// stays: each of the five is a match on the direction, since 01 lets no row count stand for a column count; one function
+// over a pair of numbers would lose that.
+impl Cut {
+    // How many places a line has.
+    fn places(self) -> Place
+        ensures { result.0 ≡ places self.direction self.board }
+    {
+        match self.direction {
+            Direction::Vertical => Place(self.board.width.0),
+            Direction::Horizontal => Place(self.board.height.0),
+        }
     }
-}
 
-// The place of a corner on its line.
-fn place_of(direction: Direction, at: Corner) -> Place
-    ensures { result.0 ≡ place_of direction at }
-{
-    match direction {
-        Direction::Vertical => Place(at.x.0),
-        Direction::Horizontal => Place(at.y.0),
+    // How many lines there are.
+    fn lines(self) -> Line
+        ensures { result.0 ≡ lines self.direction self.board }
+    {
+        match self.direction {
+            Direction::Vertical => Line(self.board.height.0),
+            Direction::Horizontal => Line(self.board.width.0),
+        }
     }
-}
 
-// The corner at a place on a line.
-fn corner_at(direction: Direction, on: Line, place: Place) -> Corner
-    ensures { result ≡ corner_at direction on.0 place.0 }
-{
-    match direction {
-        Direction::Vertical => Corner {
-            x: Columns(place.0),
-            y: Rows(on.0),
-        },
-        Direction::Horizontal => Corner {
-            x: Columns(on.0),
-            y: Rows(place.0),
-        },
+    // The place of a corner on its line.
+    fn place_of(self, at: Corner) -> Place
+        ensures { result.0 ≡ place_of self.direction at }
+    {
+        match self.direction {
+            Direction::Vertical => Place(at.x.0),
+            Direction::Horizontal => Place(at.y.0),
+        }
     }
-}
 
-// The first right side of a box: `beside` where the right shape stands beside the left one, `above` where it is above.
-fn first_right(direction: Direction, beside: Columns, above: Columns) -> Columns
-    ensures { result.0 ≡ across direction beside.0 above.0 }
-{
-    match direction {
-        Direction::Vertical => beside,
-        Direction::Horizontal => above,
+    // The corner at a place on a line.
+    fn corner_at(self, on: Line, place: Place) -> Corner
+        ensures { result ≡ corner_at self.direction on.0 place.0 }
+    {
+        match self.direction {
+            Direction::Vertical => Corner {
+                x: Columns(place.0),
+                y: Rows(on.0),
+            },
+            Direction::Horizontal => Corner {
+                x: Columns(on.0),
+                y: Rows(place.0),
+            },
+        }
+    }
+
+    // The first right side of a box: `beside` where the right shape stands beside the left one, `above` where it is
+    // above.
+    fn first_right(self, beside: Columns, above: Columns) -> Columns
+        ensures { result.0 ≡ across self.direction beside.0 above.0 }
+    {
+        match self.direction {
+            Direction::Vertical => beside,
+            Direction::Horizontal => above,
+        }
     }
 }
 
@@ -166,22 +181,15 @@ fn fill_corner(
     );
 }
 
-// Fills the slots of a node at all corners of a line.
-fn fill_line(
-    work: &[u8],
-    board: Board,
-    direction: Direction,
-    t: usize,
-    on: Line,
-    line: &mut [u8; LINE_SIZE],
-)
-    requires { Lent board (suc t) work.now × Fillable direction board on.0 line.old }
-    ensures { WholeLine direction board work.now t on.0 line.new }
+// Fills the right child's slots at all corners of a line.
+fn fill_line(work: &[u8], cut: Cut, on: Line, line: &mut [u8; LINE_SIZE])
+    requires { Lent cut.board (suc cut.right) work.now × Fillable cut.direction cut.board on.0 line.old }
+    ensures { WholeLine cut.direction cut.board work.now cut.right on.0 line.new }
 {
-    let places = places(direction, board);
+    let places = cut.places();
     for p in 0..places.0 {
-        let at = corner_at(direction, on, Place(p));
-        fill_corner(work, board, t, at, line, p * FILLED_SIZE);
+        let at = cut.corner_at(on, Place(p));
+        fill_corner(work, cut.board, cut.right, at, line, p * FILLED_SIZE);
     }
 }
 
@@ -217,16 +225,15 @@ fn lay_slot(
 
 // Pairs the left shape of width i + 1 with all right shapes beside it.
 fn pair_shape(
-    board: Board,
-    direction: Direction,
+    cut: Cut,
     at: Corner,
     i: usize,
     height: u8,
     line: &[u8; LINE_SIZE],
     tops: &mut [u8; TOPS_SIZE],
 )
-    requires { Pairable board at line.now tops.old × (at.x.0 + i < board.width.0) }
-    ensures { BoxLaid direction board line.now at i height tops.old tops.new }
+    requires { Pairable cut.board at line.now tops.old × (at.x.0 + i < cut.board.width.0) }
+    ensures { BoxLaid cut.direction cut.board line.now at i height tops.old tops.new }
 {
     let h = height as usize;
     if h == 0 {
@@ -236,42 +243,40 @@ fn pair_shape(
         x: Columns(at.x.0 + i + 1),
         y: Rows(at.y.0 + h),
     };
-    if board.height.0 < far.y.0 {
+    if cut.board.height.0 < far.y.0 {
         return;
     }
-    let place = place_of(direction, far);
-    if places(direction, board).0 <= place.0 {
+    let place = cut.place_of(far);
+    if cut.places().0 <= place.0 {
         return;
     }
-    let first = first_right(direction, Columns(far.x.0 + 1), far.x);
+    let first = cut.first_right(Columns(far.x.0 + 1), far.x);
     lay_slot(
         line,
         place.0 * FILLED_SIZE + first.0,
         far.y.0 as u8,
         tops,
         first.0,
-        board.width.0 + 1 - first.0,
+        cut.board.width.0 + 1 - first.0,
     );
 }
 
 // Pairs all shapes of the left child's slot at a corner.
 fn pair_corner(
     work: &[u8],
-    board: Board,
-    direction: Direction,
-    left: usize,
+    cut: Cut,
     at: Corner,
     line: &[u8; LINE_SIZE],
     tops: &mut [u8; TOPS_SIZE],
 )
-    requires { CornerReady board left at work.now line.now × NoTops board at tops.old }
-    ensures { CornerLaid direction board line.now work.now left at tops.new }
+    requires { CornerReady cut.board cut.left at work.now line.now × NoTops cut.board at tops.old }
+    ensures { CornerLaid cut.direction cut.board line.now work.now cut.left at tops.new }
 {
-    let from = slot_start(board, left, at);
-    let n = board.width.0 - at.x.0;
+    let from = slot_start(cut.board, cut.left, at);
+    let n = cut.board.width.0 - at.x.0;
     for i in 0..n {
         let height = work[from + i];
-        pair_shape(board, direction, at, i, height, line, tops);
+        pair_shape(cut, at, i, height, line, tops);
     }
 }
 
@@ -296,64 +301,40 @@ fn keep_slot(work: &mut [u8], base: usize, n: usize, at: Corner, tops: &[u8; TOP
 }
 
 // Writes the slot of a cut node at one corner.
-fn cut_corner(
-    work: &mut [u8],
-    board: Board,
-    direction: Direction,
-    t: usize,
-    left: usize,
-    at: Corner,
-    line: &[u8; LINE_SIZE],
-)
-    requires { CornerReady board t at work.old line.now × (left < t) }
-    ensures { CornerCut direction board line.now t left at work.old work.new }
+fn cut_corner(work: &mut [u8], cut: Cut, at: Corner, line: &[u8; LINE_SIZE])
+    requires { CornerReady cut.board cut.t at work.old line.now × (cut.left < cut.t) }
+    ensures { CornerCut cut line.now at work.old work.new }
 {
-    let none = (board.height.0 + 1) as u8;
+    let none = (cut.board.height.0 + 1) as u8;
     let mut tops = [none; TOPS_SIZE];
-    pair_corner(work, board, direction, left, at, line, &mut tops);
-    let base = slot_start(board, t, at);
-    keep_slot(work, base, board.width.0, at, &tops);
+    pair_corner(work, cut, at, line, &mut tops);
+    let base = slot_start(cut.board, cut.t, at);
+    keep_slot(work, base, cut.board.width.0, at, &tops);
 }
 
 // Writes the slots of a cut node at the corners of one line.
-fn cut_line(
-    work: &mut [u8],
-    board: Board,
-    direction: Direction,
-    t: usize,
-    left: usize,
-    right: usize,
-    on: Line,
-    line: &mut [u8; LINE_SIZE],
-)
-    requires { Cuttable board t left right work.old × Fillable direction board on.0 line.old }
-    ensures line_cut { LineCut direction board t left right on.0 work.old work.new }
-    ensures tails_none { TailsNone board line.new }
+fn cut_line(work: &mut [u8], cut: Cut, on: Line, line: &mut [u8; LINE_SIZE])
+    requires { Cuttable cut work.old × Fillable cut.direction cut.board on.0 line.old }
+    ensures written { LineCut cut on.0 work.old work.new }
+    ensures tails { TailsNone cut.board line.new }
 {
-    fill_line(work, board, direction, right, on, line);
-    let places = places(direction, board);
+    fill_line(work, cut, on, line);
+    let places = cut.places();
     for p in 0..places.0 {
-        let at = corner_at(direction, on, Place(p));
-        cut_corner(work, board, direction, t, left, at, line);
+        let at = cut.corner_at(on, Place(p));
+        cut_corner(work, cut, at, line);
     }
 }
 
 // Writes all slots of a cut node.
-pub fn cut_node(
-    work: &mut [u8],
-    board: Board,
-    direction: Direction,
-    t: usize,
-    left: usize,
-    right: usize,
-)
-    requires { Cuttable board t left right work.old }
-    ensures { NodeCut direction board t left right work.old work.new }
+pub fn cut_node(work: &mut [u8], cut: Cut)
+    requires { Cuttable cut work.old }
+    ensures { NodeCut cut work.old work.new }
 {
-    let none = (board.height.0 + 1) as u8;
+    let none = (cut.board.height.0 + 1) as u8;
     let mut line = [none; LINE_SIZE];
-    let lines = lines(direction, board);
+    let lines = cut.lines();
     for n in 0..lines.0 {
-        cut_line(work, board, direction, t, left, right, Line(n), &mut line);
+        cut_line(work, cut, Line(n), &mut line);
     }
 }

@@ -7,7 +7,7 @@ use native.Mathlib.Omega.{arith}
 use lib.ListN.{get_or}
 use Rattle.rules.specs.declared.Design.{Design}
 use Rattle.rules.specs.declared.Direction.{Direction}
-use Rattle.rules.specs.declared.Token.TheVariants.{Cut, Module}
+use Rattle.rules.specs.declared.Token.TheVariants.{Cut as CutToken, Module}
 use Rattle.rules.specs.Tree.{Tree, leaf, cut, position}
 use Rattle.rules.specs.Design.{need_at, token_at, node_at, nodes, root, ListsOf, slots_of, width_of, height_of, most_modules, most_tokens}
 use Rattle.rules.proofs.Test.{fits}
@@ -20,11 +20,12 @@ use Rattle.rules.proofs.Suiting.{design_decides}
 use Rattle.rules.proofs.Agreeing.{all_rows}
 use Rattle.rules.proofs.Relisting.{part_left, part_right}
 use Rattle.rules.proofs.Scanning.{Grows, own_grows}
-use Rattle.cuts.specs.Cut.{paired_slot, Cuttable}
+use Rattle.cuts.specs.declared.Cut.{Cut}
+use Rattle.cuts.specs.Cut.{paired_slot, Cuttable, NodeCut}
 use Rattle.leaves.specs.Leaf.{leaf_bytes, NodeListed, LeafReady}
 use Rattle.slots.specs.declared.Board.{Board}
 use Rattle.slots.specs.Size.{board_of}
-use Rattle.slots.specs.Lent.{Lent, NodeOn}
+use Rattle.slots.specs.Lent.{Lent}
 use Rattle.slots.proofs.Lending.{lent_of, fewer_lent}
 use Rattle.trees.proofs.Lefts.{left_child}
 use Rattle.listing.specs.Making.{Listable, ListsBelow, MayScan, CutReady, NodeMade}
@@ -61,10 +62,11 @@ module _ {d : Design} {lefts work : List ℕ} (L : Listable d lefts work) {t : �
     listed = λ c on. rw (node_module its_node q) (list_bytes (design_decides d) (leaf t k) c);
   }
 
-  cut_lent : {b : Board} {l r : ℕ} → b ≡ board_of d → l < t → r < t → Cuttable b t l r work
-  cut_lent e x y = record { lent = node_lent e; first = x; second = y }
+  -- the cut that stands there
+  abbrev pub cut_at : Board → Direction → Cut
+  cut_at b k = record { board = b; direction = k; t = t; left = get_or lefts t 0; right = t - 1 }
 
-  module _ {k : Direction} (q : token_at d t ≡ Cut k) where
+  module _ {k : Direction} (q : token_at d t ≡ CutToken k) where
     its_children : (l : Tree) × (r : Tree) × (node_at d t ≡ cut t k l r) × (get_or lefts t 0 ≡ position l) × (t - 1 ≡ position r) × (position l < t) × (position r < t)
     its_children = go refl its_node
       where
@@ -82,26 +84,29 @@ module _ {d : Design} {lefts work : List ℕ} (L : Listable d lefts work) {t : �
     cut_after = let (l, r, p, a, b, x, y) = its_children in omega arith
 
     -- by all pairs whatever the children's slots hold, and by the scan where the nodes before have their own lists
-    pub cut_ready : {b : Board} {by : By} → b ≡ board_of d → MayScan by d t work → CutReady by b t (get_or lefts t 0) (t - 1) work
+    pub cut_ready : {b : Board} {by : By} → b ≡ board_of d → MayScan by d t work → CutReady by (cut_at b k) work
     cut_ready {b} {by} e may = let (l, r, p, el, er, x, y) = its_children in record {
-      cuttable = cut_lent e (omega arith) (omega arith);
+      cuttable = cuttable;
       scannable = λ s. record {
-        cuttable = cut_lent e (omega arith) (omega arith);
+        cuttable = cuttable;
         lefts = rw (e, el) (child_grows l (part_left (rw p at (node_part d L.lawful t h))) x (may s));
         rights = rw (e, er) (child_grows r (part_right (rw p at (node_part d L.lawful t h))) y (may s));
       };
     }
       where
+        cuttable : Cuttable (cut_at b k) work
+        cuttable = let (l, r, p, el, er, x, y) = its_children in record { lent = node_lent e; first = omega arith; second = omega arith }
+
         child_grows : (u : Tree) → Part u (root d) → position u < t → ListsBelow d t work → Grows (width_of d) (height_of d) (slots_of d work (position u))
         child_grows u q b lists =
             let (_, e) = part_node d L.lawful u q in
             own_grows (design_decides d) u (slots_of d work (position u)) (all_rows (every_row d) (ListsOf d) (slots_of d work (position u)) u (rw (← e) at (lists (position u) b)))
 
     pub cut_made : {b : Board} {after : List ℕ} → b ≡ board_of d
-        → NodeOn b t (paired_slot k b work (get_or lefts t 0) (t - 1)) work after → NodeMade d t work after
+        → NodeCut (cut_at b k) work after → NodeMade d t work after
     unfolding paired_slot
     cut_made {b} {after} e z = let (l, r, p, a, b, x, y) = its_children in record {
-      slots = paired_slot k (board_of d) work (get_or lefts t 0) (t - 1);
+      slots = paired_slot (cut_at (board_of d) k) work;
       written = rw e at z;
       listed = λ c on. rw (p, a, b) (pairings_bytes (width_of d) (height_of d) k (slots_of d work (position l)) (slots_of d work (position r)) c);
     }

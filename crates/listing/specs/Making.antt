@@ -8,8 +8,8 @@ use Rattle.rules.specs.Slot.{IsListOf, FullLists, PastKept}
 use Rattle.rules.specs.Design.{node_at, nodes, ListsOf, slot_rows, HasSlots, slots_of, LawfulDesign, OwnLists, width_of, height_of}
 use Rattle.rules.specs.Edit.{Relists}
 use Rattle.rules.specs.Service.{work_of}
-use Rattle.slots.specs.declared.Board.{Board}
 use Rattle.slots.specs.Written.{NodeIs}
+use Rattle.cuts.specs.declared.Cut.{Cut}
 use Rattle.cuts.specs.Cut.{Cuttable}
 use Rattle.scans.specs.Scan.{Scannable}
 use Rattle.trees.specs.Positions.{LeftChildren}
@@ -42,9 +42,9 @@ MayScan by d t work = by ≡ Scan → ListsBelow d t work
 abbrev pub MayScanAll : By → Design → List Bool → Type 0
 MayScanAll by d marks = by ≡ Scan → (t : ℕ) → t < nodes d → So (is_marked marks t)
 
-pub record CutReady (by : By) (b : Board) (t left right : ℕ) (work : List ℕ) : Type 0 where
-  pub cuttable : Cuttable b t left right work
-  pub scannable : by ≡ Scan → Scannable b t left right work
+pub record CutReady (by : By) (cut : Cut) (work : List ℕ) : Type 0 where
+  pub cuttable : Cuttable cut work
+  pub scannable : by ≡ Scan → Scannable cut work
 
 -- node t is listed from what stood before, and no other byte has changed
 pub record NodeMade (d : Design) (t : ℕ) (before after : List ℕ) : Type 0 where

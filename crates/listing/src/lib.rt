@@ -10,8 +10,10 @@ ghost use Rattle.cuts.specs.Cut.{NodeCut};
 ghost use Rattle.listing.specs.Making.{Listable, CutReady, MayScan, MayScanAll};
 ghost use Rattle.listing.specs.Making.{NodeMade, Made, is_marked, on_way, ListedAfresh};
 
-use rules::{Design, Direction, MOST_TOKENS, Token};
-use slots::{Board, board_of};
+use cuts::{Cut, cut_node};
+use rules::{Design, MOST_TOKENS, Token};
+use scans::scan_node;
+use slots::board_of;
 use tokens::token_of;
 
 // How a cut is listed: by the scan over its children's own lists, or by all pairs of the shapes stored there.
@@ -22,21 +24,13 @@ enum By {
 }
 
 // Lists a cut from its children's slots.
-fn list_cut(
-    work: &mut [u8],
-    board: Board,
-    direction: Direction,
-    t: usize,
-    left: usize,
-    right: usize,
-    by: By,
-)
-    requires { CutReady by board t left right work.old }
-    ensures { NodeCut direction board t left right work.old work.new }
+fn list_cut(work: &mut [u8], cut: Cut, by: By)
+    requires { CutReady by cut work.old }
+    ensures { NodeCut cut work.old work.new }
 {
     match by {
-        By::Scan => scans::scan_node(work, board, direction, t, left, right),
-        By::Pairs => cuts::cut_node(work, board, direction, t, left, right),
+        By::Scan => scan_node(work, cut),
+        By::Pairs => cut_node(work, cut),
     }
 }
 
@@ -49,8 +43,14 @@ fn list_node(work: &mut [u8], design: Design, lefts: [u8; MOST_TOKENS], t: usize
     let token = token_of(design.tokens[t]);
     match token {
         Token::Cut(direction) => {
-            let left = lefts[t] as usize;
-            list_cut(work, board, direction, t, left, t - 1, by);
+            let cut = Cut {
+                board,
+                direction,
+                t,
+                left: lefts[t] as usize,
+                right: t - 1,
+            };
+            list_cut(work, cut, by);
         }
         Token::Module(k) => {
             let need = design.needs[k];

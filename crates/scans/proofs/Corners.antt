@@ -12,6 +12,7 @@ use Rattle.rules.specs.Chip.{corner}
 use Rattle.rules.proofs.Working.{slot_within, work_rises}
 use Rattle.slots.specs.declared.Board.{Board}
 use Rattle.slots.specs.Lent.{OnBoard, start_on, slots_on, bytes_from}
+use Rattle.cuts.specs.declared.Cut.{Cut}
 use Rattle.slots.proofs.Writing.{node_from}
 use Rattle.slots.proofs.Lending.{lent_same, on_listed, slot_lent, slot_bytes}
 use Rattle.scans.specs.Run.{Put, Falls, BesideKept, AboveKept}
@@ -39,16 +40,16 @@ module _ {B : Board} {t child : ℕ} {c : Corner} {to : ℕ} {work : List ℕ} (
 pub beside_on : {B : Board} {t child : ℕ} {c : Corner} {to : ℕ} (wide : ℕ) {work : List ℕ} → Reads B t child c to work → c.x.0 + wide < B.width.0 → OnBoard B (corner (c.x.0 + wide) c.y.0)
 beside_on wide r h = record { column = h; row = r.corner.row }
 
-pub kept_in_slot : {B : Board} {right to wide height stop last : ℕ} {c : Corner} {before after : List ℕ} {k from : ℕ} → c.x.0 + wide < B.width.0
-    → from ≡ start_on B right (corner (c.x.0 + wide) c.y.0)
+pub kept_in_slot : {cut : Cut} {to wide height stop last : ℕ} {c : Corner} {before after : List ℕ} {k from : ℕ} → c.x.0 + wide < cut.board.width.0
+    → from ≡ start_on cut.board cut.right (corner (c.x.0 + wide) c.y.0)
     → BesideKept (bytes_from before from) (last - 1 - wide) height stop (to + wide) before after k
-    → ScannedBeside B right c to wide height stop last before after (wide + 1 + k)
-kept_in_slot {B} {right} {to} {wide} {height} {stop} {last} {c} {before} {after} {k} h e z = record {
+    → ScannedBeside cut c to wide height stop last before after (wide + 1 + k)
+kept_in_slot {cut} {to} {wide} {height} {stop} {last} {c} {before} {after} {k} h e z = record {
   off = λ p. absurd (omega arith);
   on = λ _. let q : k ≡ wide + 1 + k - 1 - wide = omega arith in (
     omega arith,
-    subst (λ n. BesideKept (slots_on B before right (corner (c.x.0 + wide) c.y.0)) (last - 1 - wide) height stop (to + wide) before after n) q
-        (subst (λ f. BesideKept f (last - 1 - wide) height stop (to + wide) before after k) (slot_bytes B right (corner (c.x.0 + wide) c.y.0) before e) z),
+    subst (λ n. BesideKept (slots_on cut.board before cut.right (corner (c.x.0 + wide) c.y.0)) (last - 1 - wide) height stop (to + wide) before after n) q
+        (subst (λ f. BesideKept f (last - 1 - wide) height stop (to + wide) before after k) (slot_bytes cut.board cut.right (corner (c.x.0 + wide) c.y.0) before e) z),
   );
 }
 
@@ -56,12 +57,12 @@ kept_in_slot {B} {right} {to} {wide} {height} {stop} {last} {c} {before} {after}
 pub above_on : {B : Board} {t child : ℕ} {c : Corner} {to : ℕ} (height : ℕ) {work : List ℕ} → Reads B t child c to work → c.y.0 + height < B.height.0 → OnBoard B (corner c.x.0 (c.y.0 + height))
 above_on height r h = record { column = r.corner.column; row = h }
 
-pub kept_up_slot : {B : Board} {right to i next height low : ℕ} {c : Corner} {before after : List ℕ} {r from : ℕ} → c.y.0 + height < B.height.0
-    → from ≡ start_on B right (corner c.x.0 (c.y.0 + height))
-    → AboveKept (bytes_from before from) i next height low to before after r → ScannedAbove B right c to i next height low before after r
-kept_up_slot {B} {right} {to} {i} {next} {height} {low} {c} {before} {after} {r} h e z = record {
+pub kept_up_slot : {cut : Cut} {to i next height low : ℕ} {c : Corner} {before after : List ℕ} {r from : ℕ} → c.y.0 + height < cut.board.height.0
+    → from ≡ start_on cut.board cut.right (corner c.x.0 (c.y.0 + height))
+    → AboveKept (bytes_from before from) i next height low to before after r → ScannedAbove cut c to i next height low before after r
+kept_up_slot {cut} {to} {i} {next} {height} {low} {c} {before} {after} {r} h e z = record {
   off = λ p. absurd (omega arith);
-  on = λ _. subst (λ f. AboveKept f i next height low to before after r) (slot_bytes B right (corner c.x.0 (c.y.0 + height)) before e) z;
+  on = λ _. subst (λ f. AboveKept f i next height low to before after r) (slot_bytes cut.board cut.right (corner c.x.0 (c.y.0 + height)) before e) z;
 }
 
 -- only one slot changes

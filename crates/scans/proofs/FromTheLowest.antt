@@ -14,6 +14,7 @@ use Rattle.rules.proofs.Scanning.{StairsOf, sides, stair_falls}
 use Rattle.rules.proofs.Keeping.{KeptTo, StopsAt, keeping_begins, keeping_ends, no_corner}
 use Rattle.slots.specs.declared.Board.{Board}
 use Rattle.slots.specs.Lent.{slots_on, bytes_from}
+use Rattle.cuts.specs.declared.Cut.{Cut}
 use Rattle.slots.proofs.Lending.{slot_bytes}
 use Rattle.scans.specs.Run.{UpToLast, stop_at}
 use Rattle.scans.specs.Scan.{ScanReady, BesideReady, ScannedBeside, SlotAlone, CornerScanned}
@@ -44,16 +45,28 @@ module _ {W H : ℕ} {c : Corner} {f : ℕ → ℕ} (st : Stair W H c f) {n r : 
           omega (arith, e, x.byte, st.fall (s.w.0 - 1) (r - 1) (omega arith) (omega arith) (omega (arith, x.byte, x.high)) (u.holds (omega arith)))
 
 -- The scan before the left shape of a width, which is so high, or with none left: what it has kept of lower boxes stands in the slot.
-pub record LeftsTo (B : Board) (t left right : ℕ) (c : Corner) (start work : List ℕ) (wide height last : ℕ) : Type 0 where
-  pub alone : SlotAlone B t c start work
-  pub within : c.x.0 + wide ≤ B.width.0
-  pub shape : 1 ≤ wide → 1 ≤ slots_on B start left c (wide - 1)
-  pub high : height ≡ stop_at (slots_on B start left c) wide
+pub record LeftsTo (cut : Cut) (c : Corner) (start work : List ℕ) (wide height last : ℕ) : Type 0 where
+  pub alone : SlotAlone cut.board cut.t c start work
+  pub within : c.x.0 + wide ≤ cut.board.width.0
+  pub shape : 1 ≤ wide → 1 ≤ slots_on cut.board start cut.left c (wide - 1)
+  pub high : height ≡ stop_at (slots_on cut.board start cut.left c) wide
   pub room : wide < last
-  pub narrow : last ≤ suc (B.width.0 - c.x.0)
-  pub kept : KeptTo B.width.0 B.height.0 Vertical (slots_on B start left) (slots_on B start right) c height last (slots_on B work t c)
+  pub narrow : last ≤ suc (cut.board.width.0 - c.x.0)
+  pub kept : KeptTo cut.board.width.0 cut.board.height.0 Vertical (slots_on cut.board start cut.left) (slots_on cut.board start cut.right) c height last (slots_on cut.board work cut.t c)
 
-module _ {B : Board} {t left right : ℕ} {c : Corner} {to : ℕ} {start : List ℕ} (ready : ScanReady B t left right c to start) where
+module _ {cut : Cut} {c : Corner} {to : ℕ} {start : List ℕ} (ready : ScanReady cut c to start) where
+  abbrev B : Board
+  B = cut.board
+
+  abbrev t : ℕ
+  t = cut.t
+
+  abbrev left : ℕ
+  left = cut.left
+
+  abbrev right : ℕ
+  right = cut.right
+
   abbrev W : ℕ
   W = B.width.0
 
@@ -90,7 +103,7 @@ module _ {B : Board} {t left right : ℕ} {c : Corner} {to : ℕ} {start : List 
       go (yes h) = let w = x.wide in let v = x.within in absurd (omega (arith, x.byte, x.high, st.columns (s.w.0 - 1) (omega arith) (omega arith)))
 
   -- at first nothing is kept, and no box is lower than the lowest left shape
-  pub lefts_begin : {wide height : ℕ} → UpToLast (L c) columns wide → height ≡ stop_at (L c) wide → LeftsTo B t left right c start start wide height (columns + 1)
+  pub lefts_begin : {wide height : ℕ} → UpToLast (L c) columns wide → height ≡ stop_at (L c) wide → LeftsTo cut c start start wide height (columns + 1)
   lefts_begin {wide} {height} u e = let b = u.within in let x = ready.lefts.corner.column in record {
     alone = alone_none;
     within = omega arith;
@@ -103,9 +116,9 @@ module _ {B : Board} {t left right : ℕ} {c : Corner} {to : ℕ} {start : List 
         (λ q z. omega (arith, z.fits.columns));
   }
 
-  module _ {work : List ℕ} {wide height last : ℕ} (z : LeftsTo B t left right c start work wide height last) where
+  module _ {work : List ℕ} {wide height last : ℕ} (z : LeftsTo cut c start work wide height last) where
     -- at last every box is lower than the stop
-    pub lefts_end : wide ≡ 0 → CornerScanned Vertical B t left right c start work
+    pub lefts_end : wide ≡ 0 → CornerScanned Vertical cut c start work
     lefts_end e = record {
       alone = z.alone;
       listed = keeping_ends z.kept (λ q b. let h : height ≡ 255 = z.high ∙ ap (stop_at (L c)) e ∙ stop_none (L c) in omega (arith, b.fits.rows, ready.lefts.lent.rows));
@@ -137,7 +150,7 @@ module _ {B : Board} {t left right : ℕ} {c : Corner} {to : ℕ} {start : List 
           narrower : (s : Shape) → Stores W (L c) s → height < s.h.0 → s.w.0 ≤ wide - 1
           narrower s x h = let f = stair_falls st Vertical stored x h in omega arith
 
-      pub beside_ready : BesideReady B t right c to wide height stop last work
+      pub beside_ready : BesideReady cut c to wide height stop last work
       beside_ready = record {
         reads = reads_still ready.rights z.alone;
         some = some;
@@ -148,7 +161,7 @@ module _ {B : Board} {t left right : ℕ} {c : Corner} {to : ℕ} {start : List 
       }
 
       -- one left shape more
-      pub lefts_more : {work' : List ℕ} {r : ℕ} → ScannedBeside B right c to wide height stop last work work' r → LeftsTo B t left right c start work' next stop r
+      pub lefts_more : {work' : List ℕ} {r : ℕ} → ScannedBeside cut c to wide height stop last work work' r → LeftsTo cut c start work' next stop r
       lefts_more {work'} {r} sb = go (dec_lt (c.x.0 + wide) W)
         where
           there : wide < r → KeptTo W H Vertical L R c stop (wide + 1 + (r - 1 - wide)) (bytes_from work' to) → KeptTo W H Vertical L R c stop r (slots_on B work' t c)
@@ -156,7 +169,7 @@ module _ {B : Board} {t left right : ℕ} {c : Corner} {to : ℕ} {start : List 
               let q : wide + 1 + (r - 1 - wide) ≡ r = omega arith in
               subst (KeptTo W H Vertical L R c stop r) (slot_bytes B t c work' ready.lefts.place) (subst (λ n. KeptTo W H Vertical L R c stop n (bytes_from work' to)) q y)
 
-          go : Dec (c.x.0 + wide < W) → LeftsTo B t left right c start work' next stop r
+          go : Dec (c.x.0 + wide < W) → LeftsTo cut c start work' next stop r
           go (no h) = let (ew, er) = sb.off (omega arith) in record {
             alone = rw ew z.alone;
             within = omega (arith, z.within, u.within);

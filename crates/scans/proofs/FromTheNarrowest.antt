@@ -14,6 +14,7 @@ use Rattle.rules.proofs.Scanning.{StairsOf, sides}
 use Rattle.rules.proofs.Keeping.{KeptTo, StopsAt, keeping_begins, keeping_ends, no_corner}
 use Rattle.slots.specs.declared.Board.{Board}
 use Rattle.slots.specs.Lent.{slots_on}
+use Rattle.cuts.specs.declared.Cut.{Cut}
 use Rattle.slots.proofs.Lending.{slot_bytes}
 use Rattle.scans.specs.Run.{FirstAfter}
 use Rattle.scans.specs.Scan.{ScanReady, AboveReady, ScannedAbove, SlotAlone, CornerScanned}
@@ -22,14 +23,26 @@ use Rattle.scans.proofs.Corners.{alone_none, alone_put, child_kept, reads_still}
 use Rattle.scans.proofs.Horizontal.{above_kept_to}
 
 -- The scan before the left shape of width i + 1, or with none left: what it has kept of narrower boxes stands in the slot.
-pub record LeftsFrom (B : Board) (t left right : ℕ) (c : Corner) (start work : List ℕ) (i low : ℕ) : Type 0 where
-  pub alone : SlotAlone B t c start work
-  pub within : c.x.0 + i ≤ B.width.0
-  pub shape : c.x.0 + i < B.width.0 → 1 ≤ slots_on B start left c i
-  pub few : low ≤ suc B.height.0
-  pub kept : KeptTo B.width.0 B.height.0 Horizontal (slots_on B start left) (slots_on B start right) c (suc i) low (slots_on B work t c)
+pub record LeftsFrom (cut : Cut) (c : Corner) (start work : List ℕ) (i low : ℕ) : Type 0 where
+  pub alone : SlotAlone cut.board cut.t c start work
+  pub within : c.x.0 + i ≤ cut.board.width.0
+  pub shape : c.x.0 + i < cut.board.width.0 → 1 ≤ slots_on cut.board start cut.left c i
+  pub few : low ≤ suc cut.board.height.0
+  pub kept : KeptTo cut.board.width.0 cut.board.height.0 Horizontal (slots_on cut.board start cut.left) (slots_on cut.board start cut.right) c (suc i) low (slots_on cut.board work cut.t c)
 
-module _ {B : Board} {t left right : ℕ} {c : Corner} {to : ℕ} {start : List ℕ} (ready : ScanReady B t left right c to start) where
+module _ {cut : Cut} {c : Corner} {to : ℕ} {start : List ℕ} (ready : ScanReady cut c to start) where
+  abbrev B : Board
+  B = cut.board
+
+  abbrev t : ℕ
+  t = cut.t
+
+  abbrev left : ℕ
+  left = cut.left
+
+  abbrev right : ℕ
+  right = cut.right
+
   abbrev W : ℕ
   W = B.width.0
 
@@ -63,7 +76,7 @@ module _ {B : Board} {t left right : ℕ} {c : Corner} {to : ℕ} {start : List 
       go (yes q) = absurd (omega (arith, u.none (s.w.0 - 1) (omega arith) q, x.byte, x.high))
 
   -- at first nothing is kept, and no box is narrower than the narrowest left shape
-  pub lefts_begin : {i : ℕ} → FirstAfter (L c) 0 columns i → LeftsFrom B t left right c start start i (H - c.y.0 + 1)
+  pub lefts_begin : {i : ℕ} → FirstAfter (L c) 0 columns i → LeftsFrom cut c start start i (H - c.y.0 + 1)
   lefts_begin {i} u = let b = u.within in let x = on.column in let y = on.row in record {
     alone = alone_none;
     within = omega arith;
@@ -74,9 +87,9 @@ module _ {B : Board} {t left right : ℕ} {c : Corner} {to : ℕ} {start : List 
         (λ q z. omega (arith, z.fits.rows));
   }
 
-  module _ {work : List ℕ} {i low : ℕ} (z : LeftsFrom B t left right c start work i low) where
+  module _ {work : List ℕ} {i low : ℕ} (z : LeftsFrom cut c start work i low) where
     -- at last every box is narrower than the columns and one
-    pub lefts_end : W ≤ c.x.0 + i → CornerScanned Horizontal B t left right c start work
+    pub lefts_end : W ≤ c.x.0 + i → CornerScanned Horizontal cut c start work
     lefts_end h = record { alone = z.alone; listed = keeping_ends z.kept (λ q b. omega (arith, b.fits.columns)) }
 
     module _ (inside : c.x.0 + i < W) {next height : ℕ} (u : FirstAfter (L c) (suc i) columns next) (e : height ≡ L c i) where
@@ -95,7 +108,7 @@ module _ {B : Board} {t left right : ℕ} {c : Corner} {to : ℕ} {start : List 
       in_columns : c.x.0 + next ≤ W
       in_columns = omega (arith, u.within, on.column)
 
-      pub above_ready : AboveReady B t right c to i next height low work
+      pub above_ready : AboveReady cut c to i next height low work
       above_ready = record {
         reads = reads_still ready.rights z.alone;
         wider = omega (arith, u.from);
@@ -105,10 +118,10 @@ module _ {B : Board} {t left right : ℕ} {c : Corner} {to : ℕ} {start : List 
       }
 
       -- one left shape more
-      pub lefts_more : {work' : List ℕ} {r : ℕ} → ScannedAbove B right c to i next height low work work' r → LeftsFrom B t left right c start work' next r
+      pub lefts_more : {work' : List ℕ} {r : ℕ} → ScannedAbove cut c to i next height low work work' r → LeftsFrom cut c start work' next r
       lefts_more {work'} {r} sa = go (dec_lt (c.y.0 + height) H)
         where
-          go : Dec (c.y.0 + height < H) → LeftsFrom B t left right c start work' next r
+          go : Dec (c.y.0 + height < H) → LeftsFrom cut c start work' next r
           go (no h) = let (ew, er) = sa.off (omega arith) in record {
             alone = rw ew z.alone;
             within = in_columns;

@@ -8,6 +8,7 @@ use Rattle.rules.specs.Scan.{Scanned}
 use Rattle.rules.proofs.Scanning.{StairsOf, Grows}
 use Rattle.slots.specs.declared.Board.{Board}
 use Rattle.slots.specs.Lent.{OnBoard, start_on, slots_on, Lent, SlotOn, PartOn, in_row}
+use Rattle.cuts.specs.declared.Cut.{Cut}
 use Rattle.cuts.specs.Cut.{Cuttable, paired_slot}
 use Rattle.scans.specs.Run.{BesideKept, AboveKept}
 
@@ -27,37 +28,37 @@ pub record Reads (B : Board) (t child : ℕ) (c : Corner) (to : ℕ) (work : Lis
   pub stairs : StairsOn B work child
 
 -- scanning beside a left shape asks that it is on the chip, and that boxes narrower than the last kept are wider than it
-pub record BesideReady (B : Board) (t right : ℕ) (c : Corner) (to wide height stop last : ℕ) (work : List ℕ) : Type 0 where
-  pub reads : Reads B t right c to work
+pub record BesideReady (cut : Cut) (c : Corner) (to wide height stop last : ℕ) (work : List ℕ) : Type 0 where
+  pub reads : Reads cut.board cut.t cut.right c to work
   pub some : 1 ≤ wide
-  pub within : c.x.0 + wide ≤ B.width.0
+  pub within : c.x.0 + wide ≤ cut.board.width.0
   pub room : wide < last
-  pub narrow : last ≤ suc (B.width.0 - c.x.0)
+  pub narrow : last ≤ suc (cut.board.width.0 - c.x.0)
   pub lower : height < stop
 
 -- it leaves all as it is where the corner beside it is off the chip, and else keeps boxes narrower than the last
-pub record ScannedBeside (B : Board) (right : ℕ) (c : Corner) (to wide height stop last : ℕ) (before after : List ℕ) (r : ℕ) : Type 0 where
-  pub off : B.width.0 ≤ c.x.0 + wide → (after ≡ before) × (r ≡ last)
-  pub on : c.x.0 + wide < B.width.0
-      → (wide < r) × BesideKept (slots_on B before right (corner (c.x.0 + wide) c.y.0)) (last - 1 - wide) height stop (to + wide) before after (r - 1 - wide)
+pub record ScannedBeside (cut : Cut) (c : Corner) (to wide height stop last : ℕ) (before after : List ℕ) (r : ℕ) : Type 0 where
+  pub off : cut.board.width.0 ≤ c.x.0 + wide → (after ≡ before) × (r ≡ last)
+  pub on : c.x.0 + wide < cut.board.width.0
+      → (wide < r) × BesideKept (slots_on cut.board before cut.right (corner (c.x.0 + wide) c.y.0)) (last - 1 - wide) height stop (to + wide) before after (r - 1 - wide)
 
 -- and so above a left shape of width i + 1, up to the next one
-pub record AboveReady (B : Board) (t right : ℕ) (c : Corner) (to i next height low : ℕ) (work : List ℕ) : Type 0 where
-  pub reads : Reads B t right c to work
+pub record AboveReady (cut : Cut) (c : Corner) (to i next height low : ℕ) (work : List ℕ) : Type 0 where
+  pub reads : Reads cut.board cut.t cut.right c to work
   pub wider : i < next
-  pub within : c.x.0 + next ≤ B.width.0
-  pub high : c.y.0 + height ≤ B.height.0
-  pub few : low ≤ suc B.height.0
+  pub within : c.x.0 + next ≤ cut.board.width.0
+  pub high : c.y.0 + height ≤ cut.board.height.0
+  pub few : low ≤ suc cut.board.height.0
 
-pub record ScannedAbove (B : Board) (right : ℕ) (c : Corner) (to i next height low : ℕ) (before after : List ℕ) (r : ℕ) : Type 0 where
-  pub off : B.height.0 ≤ c.y.0 + height → (after ≡ before) × (r ≡ low)
-  pub on : c.y.0 + height < B.height.0 → AboveKept (slots_on B before right (corner c.x.0 (c.y.0 + height))) i next height low to before after r
+pub record ScannedAbove (cut : Cut) (c : Corner) (to i next height low : ℕ) (before after : List ℕ) (r : ℕ) : Type 0 where
+  pub off : cut.board.height.0 ≤ c.y.0 + height → (after ≡ before) × (r ≡ low)
+  pub on : c.y.0 + height < cut.board.height.0 → AboveKept (slots_on cut.board before cut.right (corner c.x.0 (c.y.0 + height))) i next height low to before after r
 
 -- scanning at a corner asks for a cleared slot, and for stairs of both children
-pub record ScanReady (B : Board) (t left right : ℕ) (c : Corner) (to : ℕ) (work : List ℕ) : Type 0 where
-  pub lefts : Reads B t left c to work
-  pub rights : Reads B t right c to work
-  pub cleared : (j : ℕ) → j < B.width.0 → slots_on B work t c j ≡ 0
+pub record ScanReady (cut : Cut) (c : Corner) (to : ℕ) (work : List ℕ) : Type 0 where
+  pub lefts : Reads cut.board cut.t cut.left c to work
+  pub rights : Reads cut.board cut.t cut.right c to work
+  pub cleared : (j : ℕ) → j < cut.board.width.0 → slots_on cut.board work cut.t c j ≡ 0
 
 -- of the bytes only those of one slot have changed
 pub record SlotAlone (B : Board) (t : ℕ) (c : Corner) (before after : List ℕ) : Type 0 where
@@ -65,19 +66,19 @@ pub record SlotAlone (B : Board) (t : ℕ) (c : Corner) (before after : List ℕ
   pub outside : (i : ℕ) → (i < start_on B t c) ⊎ (start_on B t c + B.width.0 ≤ i) → get_or after i 0 ≡ get_or before i 0
 
 -- it leaves there the list of the scanned boxes, and all other bytes
-pub record CornerScanned (d : Direction) (B : Board) (t left right : ℕ) (c : Corner) (before after : List ℕ) : Type 0 where
-  pub alone : SlotAlone B t c before after
-  pub listed : IsListOf B.width.0 (slots_on B after t c) (Scanned B.width.0 B.height.0 d (slots_on B before left) (slots_on B before right) c)
+pub record CornerScanned (d : Direction) (cut : Cut) (c : Corner) (before after : List ℕ) : Type 0 where
+  pub alone : SlotAlone cut.board cut.t c before after
+  pub listed : IsListOf cut.board.width.0 (slots_on cut.board after cut.t c) (Scanned cut.board.width.0 cut.board.height.0 d (slots_on cut.board before cut.left) (slots_on cut.board before cut.right) c)
 
 -- listing a cut by the scan asks for what listing it by all pairs asks, and that its children's slots are lists of rooms that grow
-pub record Scannable (B : Board) (t left right : ℕ) (work : List ℕ) : Type 0 where
-  pub cuttable : Cuttable B t left right work
-  pub lefts : GrowsOn B work left
-  pub rights : GrowsOn B work right
+pub record Scannable (cut : Cut) (work : List ℕ) : Type 0 where
+  pub cuttable : Cuttable cut work
+  pub lefts : GrowsOn cut.board work cut.left
+  pub rights : GrowsOn cut.board work cut.right
 
 -- it leaves what all pairs leave: at a corner, at the corners of a row
-abbrev pub CornerPaired : Direction → Board → ℕ → ℕ → ℕ → Corner → List ℕ → List ℕ → Type 0
-CornerPaired d B t left right c before after = SlotOn B t c (paired_slot d B before left right c) before after
+abbrev pub CornerPaired : Cut → Corner → List ℕ → List ℕ → Type 0
+CornerPaired cut c before after = SlotOn cut.board cut.t c (paired_slot cut before c) before after
 
-abbrev pub RowPaired : Direction → Board → ℕ → ℕ → ℕ → ℕ → List ℕ → List ℕ → Type 0
-RowPaired d B t left right y before after = PartOn B t (paired_slot d B before left right) (in_row y B.width.0) before after
+abbrev pub RowPaired : Cut → ℕ → List ℕ → List ℕ → Type 0
+RowPaired cut y before after = PartOn cut.board cut.t (paired_slot cut before) (in_row y cut.board.width.0) before after

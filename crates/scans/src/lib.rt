@@ -15,8 +15,9 @@ ghost use Rattle.scans.specs.Run.{WalkedOnFrom, BesideKeptFrom, WidestKeptFrom, 
 ghost use Rattle.scans.specs.Scan.{BesideReady, ScannedBeside, AboveReady, ScannedAbove};
 ghost use Rattle.scans.specs.Scan.{ScanReady, CornerScanned, Scannable, CornerPaired, RowPaired};
 
+use cuts::Cut;
 use rules::{Columns, Corner, Direction, Rows};
-use slots::{Board, clear, slot_start};
+use slots::{clear, slot_start};
 
 // Higher than any shape: the first left shape has no stop.
 const NO_STOP: u8 = 255;
@@ -131,9 +132,7 @@ fn keep_beside(work: &mut [u8], from: usize, n: usize, height: u8, stop: u8, to:
 // Scans the right shapes beside a left shape, and gives the width of the last box kept.
 fn scan_beside(
     work: &mut [u8],
-    board: Board,
-    t: usize,
-    right: usize,
+    cut: Cut,
     at: Corner,
     to: usize,
     wide: usize,
@@ -141,15 +140,15 @@ fn scan_beside(
     stop: u8,
     last: usize,
 ) -> usize
-    requires { BesideReady board t right at to wide height stop last work.old }
-    ensures { ScannedBeside board right at to wide height stop last work.old work.new result }
+    requires { BesideReady cut at to wide height stop last work.old }
+    ensures { ScannedBeside cut at to wide height stop last work.old work.new result }
 {
     let x = at.x.0 + wide;
-    if board.width.0 <= x {
+    if cut.board.width.0 <= x {
         return last;
     }
     let y = at.y;
-    let from = slot_start(board, right, Corner { x: Columns(x), y });
+    let from = slot_start(cut.board, cut.right, Corner { x: Columns(x), y });
     wide + 1 + keep_beside(work, from, last - 1 - wide, height, stop, to + wide)
 }
 
@@ -238,9 +237,7 @@ fn keep_above(
 // Scans the right shapes above a left shape of width i + 1, and gives the height of the last box kept.
 fn scan_above(
     work: &mut [u8],
-    board: Board,
-    t: usize,
-    right: usize,
+    cut: Cut,
     at: Corner,
     to: usize,
     i: usize,
@@ -248,15 +245,15 @@ fn scan_above(
     height: usize,
     low: usize,
 ) -> usize
-    requires { AboveReady board t right at to i next height low work.old }
-    ensures { ScannedAbove board right at to i next height low work.old work.new result }
+    requires { AboveReady cut at to i next height low work.old }
+    ensures { ScannedAbove cut at to i next height low work.old work.new result }
 {
     let y = at.y.0 + height;
-    if board.height.0 <= y {
+    if cut.board.height.0 <= y {
         return low;
     }
     let x = at.x;
-    let from = slot_start(board, right, Corner { x, y: Rows(y) });
+    let from = slot_start(cut.board, cut.right, Corner { x, y: Rows(y) });
     keep_above(work, from, i, next, height, low, to)
 }
 
@@ -273,110 +270,70 @@ fn stop_at(work: &[u8], from: usize, n: usize) -> u8
 }
 
 // Scans at a corner of a vertical cut, the left shapes from the widest on, which is the lowest.
-fn scan_vertical(
-    work: &mut [u8],
-    board: Board,
-    t: usize,
-    left: usize,
-    right: usize,
-    at: Corner,
-    to: usize,
-)
-    requires { ScanReady board t left right at to work.old }
-    ensures { CornerScanned Vertical board t left right at work.old work.new }
+fn scan_vertical(work: &mut [u8], cut: Cut, at: Corner, to: usize)
+    requires { ScanReady cut at to work.old }
+    ensures { CornerScanned Vertical cut at work.old work.new }
 {
-    let from = slot_start(board, left, at);
-    let columns = board.width.0 - at.x.0;
+    let from = slot_start(cut.board, cut.left, at);
+    let columns = cut.board.width.0 - at.x.0;
     let mut last = columns + 1;
     let mut wide = up_to_last(work, from, columns);
     let mut height = stop_at(work, from, wide);
     while 0 < wide {
         let next = up_to_last(work, from, wide - 1);
         let stop = stop_at(work, from, next);
-        last = scan_beside(work, board, t, right, at, to, wide, height, stop, last);
+        last = scan_beside(work, cut, at, to, wide, height, stop, last);
         wide = next;
         height = stop;
     }
 }
 
 // Scans at a corner of a horizontal cut, the left shapes from the narrowest on.
-fn scan_horizontal(
-    work: &mut [u8],
-    board: Board,
-    t: usize,
-    left: usize,
-    right: usize,
-    at: Corner,
-    to: usize,
-)
-    requires { ScanReady board t left right at to work.old }
-    ensures { CornerScanned Horizontal board t left right at work.old work.new }
+fn scan_horizontal(work: &mut [u8], cut: Cut, at: Corner, to: usize)
+    requires { ScanReady cut at to work.old }
+    ensures { CornerScanned Horizontal cut at work.old work.new }
 {
-    let from = slot_start(board, left, at);
-    let columns = board.width.0 - at.x.0;
-    let mut low = board.height.0 - at.y.0 + 1;
+    let from = slot_start(cut.board, cut.left, at);
+    let columns = cut.board.width.0 - at.x.0;
+    let mut low = cut.board.height.0 - at.y.0 + 1;
     let mut i = first_after(work, from, 0, columns);
     while i < columns {
         let next = first_after(work, from, i + 1, columns);
         let height = as_number(work[from + i]);
-        low = scan_above(work, board, t, right, at, to, i, next, height, low);
+        low = scan_above(work, cut, at, to, i, next, height, low);
         i = next;
     }
 }
 
 // Writes the slot of a cut node at one corner.
-fn scan_corner(
-    work: &mut [u8],
-    board: Board,
-    direction: Direction,
-    t: usize,
-    left: usize,
-    right: usize,
-    at: Corner,
-)
-    requires { Scannable board t left right work.old × OnBoard board at }
-    ensures { CornerPaired direction board t left right at work.old work.new }
+fn scan_corner(work: &mut [u8], cut: Cut, at: Corner)
+    requires { Scannable cut work.old × OnBoard cut.board at }
+    ensures { CornerPaired cut at work.old work.new }
 {
-    let to = slot_start(board, t, at);
-    clear(work, to, board.width);
-    match direction {
-        Direction::Vertical => scan_vertical(work, board, t, left, right, at, to),
-        Direction::Horizontal => scan_horizontal(work, board, t, left, right, at, to),
+    let to = slot_start(cut.board, cut.t, at);
+    clear(work, to, cut.board.width);
+    match cut.direction {
+        Direction::Vertical => scan_vertical(work, cut, at, to),
+        Direction::Horizontal => scan_horizontal(work, cut, at, to),
     }
 }
 
 // Writes the slots of a cut node at the corners of one row.
-fn scan_row(
-    work: &mut [u8],
-    board: Board,
-    direction: Direction,
-    t: usize,
-    left: usize,
-    right: usize,
-    y: Rows,
-)
-    requires { Scannable board t left right work.old × (y.0 < board.listed.0) }
-    ensures { RowPaired direction board t left right y.0 work.old work.new }
+fn scan_row(work: &mut [u8], cut: Cut, y: Rows)
+    requires { Scannable cut work.old × (y.0 < cut.board.listed.0) }
+    ensures { RowPaired cut y.0 work.old work.new }
 {
-    for x in 0..board.width.0 {
-        let at = Corner { x: Columns(x), y };
-        scan_corner(work, board, direction, t, left, right, at);
+    for x in 0..cut.board.width.0 {
+        scan_corner(work, cut, Corner { x: Columns(x), y });
     }
 }
 
 // Writes all slots of a cut node: the same as cuts::cut_node, where its children's slots are lists of rooms that grow.
-pub fn scan_node(
-    work: &mut [u8],
-    board: Board,
-    direction: Direction,
-    t: usize,
-    left: usize,
-    right: usize,
-)
-    requires { Scannable board t left right work.old }
-    ensures { NodeCut direction board t left right work.old work.new }
+pub fn scan_node(work: &mut [u8], cut: Cut)
+    requires { Scannable cut work.old }
+    ensures { NodeCut cut work.old work.new }
 {
-    for y in 0..board.listed.0 {
-        scan_row(work, board, direction, t, left, right, Rows(y));
+    for y in 0..cut.board.listed.0 {
+        scan_row(work, cut, Rows(y));
     }
 }

@@ -10,7 +10,7 @@ use Rattle.cuts.proofs.cut_corner.Goals as goal
 pub pair_corner-requires : goal.pair_corner-requires
 pair_corner-requires c =
     let a = c.args in let p = c.requires.0 in
-    (record { lent = fewer_lent p.lent _ (omega (arith, c.requires.1)); corner = p.corner; tails = p.tails }, fresh_tops a.at.x.0 a.board.height.0)
+    (record { lent = fewer_lent p.lent _ (omega (arith, c.requires.1)); corner = p.corner; tails = p.tails }, fresh_tops a.at.x.0 a.cut.board.height.0)
 
 pub slot_start-base-requires : goal.slot_start-base-requires
 slot_start-base-requires c = let p = c.requires in last_addressed p.0.lent p.0.corner
@@ -23,11 +23,11 @@ keep_slot-requires c =
       sides = omega (arith, p.lent.columns, p.corner.column);
       row = omega (arith, p.lent.rows, p.corner.row);
       above =
-          tops_above a.direction a.board (held_top a.line.now) a.at (slots_on a.board a.work.now a.left a.at) p.corner c.pair_corner.ensures;
+          tops_above a.cut.direction a.cut.board (held_top a.line.now) a.at (slots_on a.cut.board a.work.now a.cut.left a.at) p.corner c.pair_corner.ensures;
     }
 
 pub returns : goal.returns
 returns c =
     let a = c.args in let p = c.requires.0 in
-    corner_cut a.direction a.board (held_top a.line.now) a.at (slots_on a.board a.work.now a.left a.at) p.corner c.pair_corner.ensures
-    a.t p.lent c.slot_start-base.ensures.0 c.keep_slot.ensures
+    corner_cut a.cut.direction a.cut.board (held_top a.line.now) a.at (slots_on a.cut.board a.work.now a.cut.left a.at) p.corner c.pair_corner.ensures
+    a.cut.t p.lent c.slot_start-base.ensures.0 c.keep_slot.ensures

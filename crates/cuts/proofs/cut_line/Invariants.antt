@@ -8,5 +8,5 @@ use Rattle.cuts.proofs.cut_line.Given as goal
 
 abbrev pub invariant-loop-p : goal.invariant-loop-p
 invariant-loop-p l =
-    (l.p ≤ l.p-end) × (l.p-end ≡ places l.direction l.board)
-    × PartOn l.board l.t (paired_slot l.direction l.board l.initial.work l.left l.right) (on_line l.direction l.on.0 l.p) l.initial.work l.work
+    (l.p ≤ l.p-end) × (l.p-end ≡ places l.cut.direction l.cut.board)
+    × PartOn l.cut.board l.cut.t (paired_slot l.cut l.initial.work) (on_line l.cut.direction l.on.0 l.p) l.initial.work l.work

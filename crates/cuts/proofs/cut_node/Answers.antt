@@ -12,7 +12,7 @@ use Rattle.cuts.proofs.cut_node.Goals as goal
 pub loop-n-init : goal.loop-n-init
 loop-n-init c =
     let a = c.args in
-    (search rules, c.lines-lines.ensures, fresh_line a.board, no_line a.direction a.board a.t a.left a.right a.work.now c.requires.lent.chip)
+    (search rules, c.lines-lines.ensures, fresh_line a.cut.board, no_line a.cut a.work.now c.requires.lent.chip)
 
 pub cut_line-requires : goal.cut_line-requires
 cut_line-requires c =
@@ -24,10 +24,10 @@ loop-n-preserved c =
     let a = c.args in let p = c.requires in
     let l = c.loop-n in
     let e = c.cut_line.ensures in
-    (omega arith, l.invariant.1, e.tails_none, line_done a.direction a.board a.t a.left a.right a.work.now p.lent.chip l.n p.lent.every p.first p.second l.invariant.3 e.line_cut)
+    (omega arith, l.invariant.1, e.tails, line_done a.cut a.work.now p.lent.chip l.n p.lent.every p.first p.second l.invariant.3 e.written)
 
 pub returns : goal.returns
 returns c =
     let a = c.args in let l = c.loop-n in
-    let e : l.n ≡ lines a.direction a.board = omega (arith, l.invariant.1, c.loop-n-test.false) in
-    lines_done a.direction a.board a.t a.left a.right a.work.now c.requires.lent.chip (rw e at l.invariant.3)
+    let e : l.n ≡ lines a.cut.direction a.cut.board = omega (arith, l.invariant.1, c.loop-n-test.false) in
+    lines_done a.cut a.work.now c.requires.lent.chip (rw e at l.invariant.3)

@@ -8,5 +8,5 @@ use Rattle.cuts.proofs.cut_node.Given as goal
 
 abbrev pub invariant-loop-n : goal.invariant-loop-n
 invariant-loop-n l =
-    (l.n ≤ l.n-end) × (l.n-end ≡ lines l.direction l.board) × TailsNone l.board l.line
-    × PartOn l.board l.t (paired_slot l.direction l.board l.initial.work l.left l.right) (before_line l.direction l.n) l.initial.work l.work
+    (l.n ≤ l.n-end) × (l.n-end ≡ lines l.cut.direction l.cut.board) × TailsNone l.cut.board l.line
+    × PartOn l.cut.board l.cut.t (paired_slot l.cut l.initial.work) (before_line l.cut.direction l.n) l.initial.work l.work

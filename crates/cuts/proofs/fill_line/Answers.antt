@@ -12,22 +12,22 @@ loop-p-init c = (search rules, c.places-places.ensures, line_none c.requires.1.t
 pub overflow_mul-p : goal.overflow_mul-p
 overflow_mul-p c =
     let a = c.args in let r = c.requires.0 in
-    omega (arith, few_places a.direction a.board r.columns r.rows, c.loop-p.invariant.1, c.loop-p-test.true)
+    omega (arith, few_places a.cut.direction a.cut.board r.columns r.rows, c.loop-p.invariant.1, c.loop-p-test.true)
 
 pub fill_corner-requires : goal.fill_corner-requires
 fill_corner-requires c =
     let a = c.args in let r = c.requires.0 in let l = c.loop-p in let t = c.loop-p-test.true in
-    let few = few_places a.direction a.board r.columns r.rows in
-    (r, corner_met a.direction a.board c.requires.1.on t l.invariant.1 c.corner_at-at.ensures, omega arith)
+    let few = few_places a.cut.direction a.cut.board r.columns r.rows in
+    (r, corner_met a.cut.direction a.cut.board c.requires.1.on t l.invariant.1 c.corner_at-at.ensures, omega arith)
 
 pub loop-p-preserved : goal.loop-p-preserved
 loop-p-preserved c =
     let a = c.args in let r = c.requires.0 in let l = c.loop-p in let t = c.loop-p-test.true in let e = c.corner_at-at.ensures in
-    let few = few_places a.direction a.board r.columns r.rows in
-    (omega arith, l.invariant.1, line_next l.invariant.2 e (corner_met a.direction a.board c.requires.1.on t l.invariant.1 e) r.columns (omega arith) c.fill_corner.ensures)
+    let few = few_places a.cut.direction a.cut.board r.columns r.rows in
+    (omega arith, l.invariant.1, line_next l.invariant.2 e (corner_met a.cut.direction a.cut.board c.requires.1.on t l.invariant.1 e) r.columns (omega arith) c.fill_corner.ensures)
 
 pub returns : goal.returns
 returns c =
     let a = c.args in let l = c.loop-p in
-    let e : l.p ≡ places a.direction a.board = omega (arith, l.invariant.1, c.loop-p-test.false) in
+    let e : l.p ≡ places a.cut.direction a.cut.board = omega (arith, l.invariant.1, c.loop-p-test.false) in
     rw e at l.invariant.2

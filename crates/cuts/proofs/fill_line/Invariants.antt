@@ -7,4 +7,4 @@ use Rattle.cuts.proofs.fill_line.Given as goal
 
 abbrev pub invariant-loop-p : goal.invariant-loop-p
 invariant-loop-p l =
-    (l.p ≤ l.p-end) × (l.p-end ≡ places l.direction l.board) × LineFilled l.direction l.board (slots_on l.board l.work l.t) l.on.0 l.p l.line
+    (l.p ≤ l.p-end) × (l.p-end ≡ places l.cut.direction l.cut.board) × LineFilled l.cut.direction l.cut.board (slots_on l.cut.board l.work l.cut.right) l.on.0 l.p l.line

@@ -13,7 +13,7 @@ slot_start-from-requires c = let p = c.requires in last_addressed p.0.lent p.0.c
 
 pub loop-i-init : goal.loop-i-init
 loop-i-init c = let a = c.args in
-    (search rules, refl, c.slot_start-from.ensures.0, shapes_none a.direction a.board a.work.now a.line.now a.left a.at c.requires.1)
+    (search rules, refl, c.slot_start-from.ensures.0, shapes_none a.cut.direction a.cut.board a.work.now a.line.now a.cut.left a.at c.requires.1)
 
 pub bounds-work-from : goal.bounds-work-from
 bounds-work-from c =
@@ -25,15 +25,15 @@ pair_shape-requires c =
     let a = c.args in
     let p = c.requires in
     let l = c.loop-i in
-    (can_pair a.direction a.board a.work.now a.line.now a.left a.at l.i p.0.lent p.0.corner p.0.tails l.invariant.3, omega (arith, l.invariant.1))
+    (can_pair a.cut.direction a.cut.board a.work.now a.line.now a.cut.left a.at l.i p.0.lent p.0.corner p.0.tails l.invariant.3, omega (arith, l.invariant.1))
 
 pub loop-i-preserved : goal.loop-i-preserved
 loop-i-preserved c =
     let a = c.args in
     let l = c.loop-i in
-    (omega arith, l.invariant.1, l.invariant.2, shapes_next a.direction a.board a.work.now a.line.now a.left a.at l.i l.invariant.2 l.invariant.3 c.pair_shape.ensures)
+    (omega arith, l.invariant.1, l.invariant.2, shapes_next a.cut.direction a.cut.board a.work.now a.line.now a.cut.left a.at l.i l.invariant.2 l.invariant.3 c.pair_shape.ensures)
 
 pub returns : goal.returns
 returns c =
     let a = c.args in let l = c.loop-i in
-    let e : l.i ≡ a.board.width.0 - a.at.x.0 = omega (arith, l.invariant.1) in rw e at l.invariant.3
+    let e : l.i ≡ a.cut.board.width.0 - a.at.x.0 = omega (arith, l.invariant.1) in rw e at l.invariant.3

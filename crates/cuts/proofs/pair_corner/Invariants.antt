@@ -8,5 +8,5 @@ use Rattle.cuts.proofs.pair_corner.Given as goal
 
 abbrev pub invariant-loop-i : goal.invariant-loop-i
 invariant-loop-i l =
-    (l.i ≤ l.n) × (l.n ≡ l.board.width.0 - l.at.x.0) × (l.from ≡ start_on l.board l.left l.at)
-    × TopsAre l.at.x.0 (least_top l.direction l.board (held_top l.line) l.at (slots_on l.board l.work l.left l.at) l.i) l.tops
+    (l.i ≤ l.n) × (l.n ≡ l.cut.board.width.0 - l.at.x.0) × (l.from ≡ start_on l.cut.board l.cut.left l.at)
+    × TopsAre l.at.x.0 (least_top l.cut.direction l.cut.board (held_top l.line) l.at (slots_on l.cut.board l.work l.cut.left l.at) l.i) l.tops

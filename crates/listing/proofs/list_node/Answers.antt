@@ -12,8 +12,8 @@ bounds-design-t c = let p = c.requires in few_nodes p.0 p.1
 pub bounds-lefts-t : goal.bounds-lefts-t
 bounds-lefts-t c = let p = c.requires in few_nodes p.0 p.1
 
-pub overflow_sub-t : goal.overflow_sub-t
-overflow_sub-t c =
+pub overflow_sub-cut : goal.overflow_sub-cut
+overflow_sub-cut c =
     let p = c.requires in
     cut_after p.0 p.1 (sym c.token_of-token.ensures ∙ c.in-Cut.is)
 

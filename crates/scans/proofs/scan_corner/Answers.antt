@@ -2,7 +2,7 @@
 -- nothing.
 use native.Mathlib.Omega.{arith}
 use Rattle.slots.proofs.Lending.{last_lent}
-use Rattle.scans.proofs.Nodes.{cleared_ready, corner_cut_as}
+use Rattle.scans.proofs.Nodes.{cleared_ready, corner_paired}
 use Rattle.scans.proofs.scan_corner.Goals as goal
 
 pub clear-requires : goal.clear-requires
@@ -22,9 +22,9 @@ scan_horizontal-requires c =
 pub returns-in-Vertical : goal.returns-in-Vertical
 returns-in-Vertical c =
     let p = c.requires in
-    corner_cut_as p.0 p.1 c.slot_start-to.ensures.0 c.clear.ensures c.in-Vertical.is c.scan_vertical.ensures
+    corner_paired p.0 p.1 c.slot_start-to.ensures.0 c.clear.ensures c.in-Vertical.is c.scan_vertical.ensures
 
 pub returns-in-Horizontal : goal.returns-in-Horizontal
 returns-in-Horizontal c =
     let p = c.requires in
-    corner_cut_as p.0 p.1 c.slot_start-to.ensures.0 c.clear.ensures c.in-Horizontal.is c.scan_horizontal.ensures
+    corner_paired p.0 p.1 c.slot_start-to.ensures.0 c.clear.ensures c.in-Horizontal.is c.scan_horizontal.ensures

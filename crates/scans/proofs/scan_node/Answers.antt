@@ -15,9 +15,9 @@ scan_row-requires c = (still_scannable c.requires c.loop-y.invariant.2, search r
 pub loop-y-preserved : goal.loop-y-preserved
 loop-y-preserved c =
     let p = c.requires in let z = c.loop-y.invariant in
-    (omega arith, refl, one_row_more c.loop-y.y _ _ _ z.2 (part_as (same_slots p z.2 _) c.scan_row.ensures))
+    (omega arith, refl, one_row_more c.loop-y.y _ _ _ z.2 (part_as (same_slots p z.2) c.scan_row.ensures))
 
 pub returns : goal.returns
 returns c =
-    let l = c.loop-y in let e : l.y ≡ c.args.board.listed.0 = omega arith in
+    let l = c.loop-y in let e : l.y ≡ c.args.cut.board.listed.0 = omega arith in
     all_rows _ _ (rw e at l.invariant.2)

@@ -7,4 +7,4 @@ use Rattle.scans.proofs.scan_node.Given as goal
 
 abbrev pub invariant-loop-y : goal.invariant-loop-y
 invariant-loop-y l =
-    (l.y ≤ l.board.listed.0) × (l.y-end ≡ l.board.listed.0) × PartOn l.board l.t (paired_slot l.direction l.board l.initial.work l.left l.right) (below l.y) l.initial.work l.work
+    (l.y ≤ l.cut.board.listed.0) × (l.y-end ≡ l.cut.board.listed.0) × PartOn l.cut.board l.cut.t (paired_slot l.cut l.initial.work) (below l.y) l.initial.work l.work

@@ -22,9 +22,9 @@ loop-x-preserved c =
       omega arith,
       refl,
       one_in_row c.loop-x.x _ _ _ _ (omega arith) p.1 z.2
-          (slot_as (same_slots p.0 z.2 _ _ (record { column = omega arith; row = p.1 })) c.scan_corner.ensures),
+          (slot_as (same_slots p.0 z.2 _ (record { column = omega arith; row = p.1 })) c.scan_corner.ensures),
     )
 
 pub returns : goal.returns
 returns c =
-    let l = c.loop-x in let e : l.x ≡ c.args.board.width.0 = omega arith in rw e at l.invariant.2
+    let l = c.loop-x in let e : l.x ≡ c.args.cut.board.width.0 = omega arith in rw e at l.invariant.2

@@ -8,4 +8,4 @@ use Rattle.scans.proofs.scan_row.Given as goal
 
 abbrev pub invariant-loop-x : goal.invariant-loop-x
 invariant-loop-x l =
-    (l.x ≤ l.board.width.0) × (l.x-end ≡ l.board.width.0) × PartOn l.board l.t (paired_slot l.direction l.board l.initial.work l.left l.right) (in_row l.y.0 l.x) l.initial.work l.work
+    (l.x ≤ l.cut.board.width.0) × (l.x-end ≡ l.cut.board.width.0) × PartOn l.cut.board l.cut.t (paired_slot l.cut l.initial.work) (in_row l.y.0 l.x) l.initial.work l.work
