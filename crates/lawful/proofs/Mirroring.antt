@@ -1,8 +1,8 @@
 -- The stack decides as 01's rule does. A cut looks only at how many things stand, and a module only at whether it stands already; the
 -- stack keeps both, so by cases on the token it refuses where the rule refuses, and otherwise mirrors what then stands. Assumes nothing.
-use Rattle.std.specs.Prelude.{Ok, Err}
-use mathlib.Core.Path.{◌≡◌, refl, sym, ◌∙◌}
-use mathlib.Core.Bool.{Bool, true, false, not, ◌&&◌, ◌||◌, true≢false}
+use Rattle.std.specs.Prelude.{Option, Some, None, Ok, Err}
+use mathlib.Core.Path.{◌≡◌, refl, ◌∙◌}
+use mathlib.Core.Bool.{Bool, true, false, not, ◌&&◌, ◌||◌}
 use mathlib.Core.List.{List, [], ◌∷◌}
 use Prim.Native.Nat.{ℕ, zero, suc, ◌+◌, ◌≤◌, ◌<◌}
 use native.Mathlib.Omega.{arith}
@@ -20,8 +20,7 @@ use Rattle.rules.specs.Tree.{Tree, leaf, has, Standing, refused, things, stands,
 use Rattle.rules.specs.Design.{most_modules, tree_test}
 use Rattle.rules.proofs.Standing.{joined_stands}
 use Rattle.lawful.specs.declared.Stack.{Stack}
-use Rattle.lawful.specs.declared.Step.{Step}
-use Rattle.lawful.specs.Stack.{empty_stack, refuses, passes, after_cut, after_module, after_token, Mirrors, Agrees}
+use Rattle.lawful.specs.Stack.{empty_stack, after_cut, after_module, after_token, Mirrors, Agrees}
 
 -- where nothing stands
 pub empty_mirrors : Mirrors empty_stack []
@@ -38,6 +37,7 @@ cut_agrees t d s [] M = rw (after_cut, lt-ltb s.count 2 (omega arith))
 cut_agrees t d s (r ∷ []) M = rw (after_cut, lt-ltb s.count 2 (omega arith))
 cut_agrees t d s (r ∷ (l ∷ ts)) M =
     rw (after_cut, le-ltb s.count 2 (omega arith)) (
+      _,
       refl,
       record {
         size = M.size;
@@ -57,10 +57,11 @@ module_agrees m t k s ts h M = go (ltb k m) refl
 
     fresh : k < most_modules → (b : Bool)
         → Agrees
-        (elim (not b) as (λ _. Step) [ true ↦ passes (record { seen = set s.seen k true; count = s.count + 1 }) | false ↦ refuses s ])
+        (elim (not b) as (λ _. Option Stack) [ true ↦ Some (record { seen = set s.seen k true; count = s.count + 1 }) | false ↦ None ])
         (elim (not b) as (λ _. Standing) [ true ↦ things (leaf t k ∷ ts) | false ↦ refused ])
     fresh l true = refl
     fresh l false = (
+      _,
       refl,
       record {
         size = length-set s.seen k true ∙ M.size;
@@ -82,35 +83,45 @@ token_agrees m t (Cut d) {s} {ts} h M = cut_agrees t d s ts M
 token_agrees m t (Module k) {s} {ts} h M = module_agrees m t k s ts h M
 token_agrees m t Beyond h M = refl
 
--- the same for one who has the step's answer in hand
+-- the same for one who has the answer in hand
 module _ (m t : ℕ) (token : Token) {s : Stack} {ts : List Tree} (h : m ≤ most_modules) (M : Mirrors s ts) where
-  pub token_refused : (after_token m token s).ok ≡ false → after m t token ts ≡ refused
+  pub token_refused : after_token m token s ≡ None → after m t token ts ≡ refused
   token_refused e = go (after m t token ts) (token_agrees m t token h M)
     where
       go : (u : Standing) → Agrees (after_token m token s) u → u ≡ refused
       go refused A = refl
-      go (things us) A = absurd (true≢false (sym A.0 ∙ e))
+      go (things us) (p, q, A) = absurd (cc)
 
-  pub token_passed : (after_token m token s).ok ≡ true
-      → (us : List Tree) × (after m t token ts ≡ things us) × Mirrors (after_token m token s).stack us
-  token_passed e = go (after m t token ts) (token_agrees m t token h M)
+  pub token_passed : {p : Stack} → after_token m token s ≡ Some p
+      → (us : List Tree) × (after m t token ts ≡ things us) × Mirrors p us
+  token_passed {p} e = go (after m t token ts) (token_agrees m t token h M)
     where
-      go : (u : Standing) → Agrees (after_token m token s) u
-          → (us : List Tree) × (u ≡ things us) × Mirrors (after_token m token s).stack us
-      go refused A = absurd (true≢false (sym e ∙ A))
-      go (things us) A = (us, refl, A.1)
+      go : (u : Standing) → Agrees (after_token m token s) u → (us : List Tree) × (u ≡ things us) × Mirrors p us
+      go refused A = absurd (cc)
+      go (things us) (o, q, A) = let w : p ≡ o = cc in rw w (us, refl, A)
 
-either : (n : ℕ) (p q : Step) (b : Bool) → p.stack.count ≤ n → q.stack.count ≤ n
-    → (elim b as (λ _. Step) [ true ↦ p | false ↦ q ]).stack.count ≤ n
-either n p q true h g = h
-either n p q false h g = g
+-- no more than n things stand, if any stack is left
+abbrev Within : ℕ → Option Stack → Type 0
+Within n o = (p : Stack) → o ≡ Some p → p.count ≤ n
+
+none_within : {n : ℕ} → Within n None
+none_within p e = absurd (cc)
+
+some_within : {n : ℕ} {q : Stack} → q.count ≤ n → Within n (Some q)
+some_within {n} {q} h p e = let w : q ≡ p = cc in rw w at h
+
+either : (n : ℕ) (o u : Option Stack) (b : Bool) → Within n o → Within n u
+    → Within n (elim b as (λ _. Option Stack) [ true ↦ o | false ↦ u ])
+either n o u true h g = h
+either n o u false h g = g
 
 -- a token adds at most one thing
-pub one_more : (m : ℕ) (token : Token) (s : Stack) → (after_token m token s).stack.count ≤ s.count + 1
+pub one_more : (m : ℕ) (token : Token) (s : Stack) (p : Stack) → after_token m token s ≡ Some p → p.count ≤ s.count + 1
 unfolding after_cut after_module
-one_more m (Cut d) s = either _ _ _ (ltb s.count 2) (omega arith) (omega arith)
-one_more m (Module k) s = either _ _ _ (ltb k m && not (get_or s.seen k false)) (omega arith) (omega arith)
-one_more m Beyond s = omega arith
+one_more m (Cut d) s = either _ _ _ (ltb s.count 2) none_within (some_within (omega arith))
+one_more m (Module k) s =
+    either _ _ _ (ltb k m && not (get_or s.seen k false)) (some_within (omega arith)) none_within
+one_more m Beyond s = none_within
 
 -- with a count of one, one thing stands
 pub one_thing : {s : Stack} {ts : List Tree} → Mirrors s ts → s.count ≡ 1 → (t : Tree) × (ts ≡ t ∷ [])
@@ -139,22 +150,22 @@ module _ (m : ℕ) (token : ℕ → Token) where
       go (yes q) ih = rw q at e
       go (no q) ih = rw (standing, ih (omega arith))
 
-  -- the next token, at position i, with its step
-  module _ (h : m ≤ most_modules) {i : ℕ} {s : Stack} (S : Stands m token i s) (p : Step) (e : p ≡ after_token m (token i) s) where
-    pub stands_next : p.ok ≡ true → Stands m token (i + 1) p.stack
+  -- the next token, at position i
+  module _ (h : m ≤ most_modules) {i : ℕ} {s : Stack} (S : Stands m token i s) where
+    pub stands_next : {p : Stack} → after_token m (token i) s ≡ Some p → Stands m token (i + 1) p
     unfolding standing
-    stands_next o =
-        let (us, q, M) = token_passed m i (token i) h S.mirrors (rw e at o) in let a = one_more m (token i) s in rw e (record {
+    stands_next e =
+        let (us, q, M) = token_passed m i (token i) h S.mirrors e in let a = one_more m (token i) s _ e in record {
           trees = us;
           stand = rw (add-one, standing, S.stand) q;
           mirrors = M;
           most = omega (arith, S.most);
-        })
+        }
 
-    pub stands_no_more : p.ok ≡ false → (n : ℕ) → i < n → tree_test (standing m token n) ≡ Err (BadToken 0)
+    pub stands_no_more : after_token m (token i) s ≡ None → (n : ℕ) → i < n → tree_test (standing m token n) ≡ Err (BadToken 0)
     unfolding standing
-    stands_no_more o n l =
-        rw (stays_refused (suc i) n l (rw (standing, S.stand) (token_refused m i (token i) h S.mirrors (rw e at o))))
+    stands_no_more e n l =
+        rw (stays_refused (suc i) n l (rw (standing, S.stand) (token_refused m i (token i) h S.mirrors e)))
 
   -- with the tokens used up, the count tells whether one thing stands
   module _ {n : ℕ} {s : Stack} (S : Stands m token n s) where

@@ -8,7 +8,10 @@ ghost use Rattle.rules.specs.Design.{most_tokens, most_columns, last_kind, most_
 ghost use Rattle.lawful.specs.Tested.{Tested};
 ghost use Rattle.lawful.specs.Stack.{empty_stack, after_cut, after_module, after_token};
 
-use rules::{Chip, Design, LAST_KIND, MOST_COLUMNS, MOST_MODULES, MOST_NUMBER, MOST_ROWS, Need, Refusal, Token};
+use rules::{
+    Chip, Design, LAST_KIND, MOST_COLUMNS, MOST_MODULES, MOST_NUMBER, MOST_ROWS, Need, Refusal,
+    Token,
+};
 use tokens::token_of;
 
 // Of the things that the tokens read so far leave standing: the modules in them, and how many things they are.
@@ -18,14 +21,8 @@ pub struct Stack {
     pub count: usize,
 }
 
-// What a token does: it is refused and the stack stays, or it passes and this stack stands.
-#[derive(Clone, Copy)]
-pub struct Step {
-    pub ok: bool,
-    pub stack: Stack,
-}
-
 // A number is within its limits.
+#[tactic(auto, unfolding(rules::specs::Design::in_range))]
 pub fn in_range(low: usize, most: usize, n: usize) -> bool
     ensures { result ≡ in_range low most n }
 {
@@ -33,25 +30,14 @@ pub fn in_range(low: usize, most: usize, n: usize) -> bool
 }
 
 // A need is within the limits, and not all zero.
+#[tactic(auto, unfolding(rules::specs::Design::lawful_need))]
 pub fn lawful_need(n: Need) -> bool
     ensures { result ≡ lawful_need n }
 {
-    if n.clbs > MOST_NUMBER {
-        return false;
-    }
-    if n.rams > MOST_NUMBER {
-        return false;
-    }
-    if n.multipliers > MOST_NUMBER {
-        return false;
-    }
-    if n.clbs != 0 {
-        return true;
-    }
-    if n.rams != 0 {
-        return true;
-    }
-    n.multipliers != 0
+    n.clbs <= MOST_NUMBER
+        && n.rams <= MOST_NUMBER
+        && n.multipliers <= MOST_NUMBER
+        && (n.clbs != 0 || n.rams != 0 || n.multipliers != 0)
 }
 
 // Every column of the chip has one of the kinds.
@@ -59,29 +45,20 @@ fn kinds_ok(chip: Chip) -> bool
     requires { chip.width.0 ≤ most_columns }
     ensures { result ≡ all chip.width.0 (λ x. leb (kind_at chip x) last_kind) }
 {
-    let w = chip.width.0;
-    for x in 0..w {
-        if chip.kinds[x] > LAST_KIND {
-            return false;
-        }
-    }
-    true
+    chip.kinds[..chip.width.0]
+        .iter()
+        .all(|kind| *kind <= LAST_KIND)
 }
 
 // The chip is within the limits, tested in file order.
+#[tactic(auto, unfolding(rules::specs::Design::in_range, rules::specs::Design::lawful_chip))]
 fn lawful_chip(chip: Chip) -> bool
     ensures { result ≡ lawful_chip chip }
 {
-    if !in_range(1, MOST_COLUMNS, chip.width.0) {
-        return false;
-    }
-    if !in_range(1, MOST_ROWS, chip.height.0) {
-        return false;
-    }
-    if !in_range(1, chip.height.0, chip.block.0) {
-        return false;
-    }
-    kinds_ok(chip)
+    in_range(1, MOST_COLUMNS, chip.width.0)
+        && in_range(1, MOST_ROWS, chip.height.0)
+        && in_range(1, chip.height.0, chip.block.0)
+        && kinds_ok(chip)
 }
 
 // Every module's need is lawful.
@@ -89,29 +66,19 @@ fn needs_ok(d: Design) -> bool
     requires { d.modules ≤ most_modules }
     ensures { result ≡ all d.modules (λ k. lawful_need (need_at d k)) }
 {
-    let m = d.modules;
-    for k in 0..m {
-        if !lawful_need(d.needs[k]) {
-            return false;
-        }
-    }
-    true
+    d.needs[..d.modules].iter().all(|need| lawful_need(*need))
 }
 
 // The design is within the limits, tested in file order.
+#[tactic(auto, unfolding(rules::specs::Design::in_range, rules::specs::Design::within_limits))]
 pub fn within_limits(d: Design) -> bool
     ensures { result ≡ within_limits d }
 {
-    if !lawful_chip(d.chip) {
-        return false;
-    }
-    if !in_range(1, MOST_MODULES, d.modules) {
-        return false;
-    }
-    needs_ok(d)
+    lawful_chip(d.chip) && in_range(1, MOST_MODULES, d.modules) && needs_ok(d)
 }
 
 // Nothing stands.
+#[tactic(auto, unfolding(crate::specs::Stack::empty_stack))]
 pub fn empty_stack() -> Stack
     ensures { result ≡ empty_stack }
 {
@@ -119,54 +86,47 @@ pub fn empty_stack() -> Stack
     Stack { seen, count: 0 }
 }
 
-// A cut joins the two things standing last.
-fn after_cut(stack: Stack) -> Step
+// A cut joins the two things standing last, if there are two.
+#[tactic(auto, unfolding(crate::specs::Stack::after_cut))]
+fn after_cut(stack: Stack) -> Option<Stack>
     ensures { result ≡ after_cut stack }
 {
     if stack.count < 2 {
-        return Step { ok: false, stack };
+        return None;
     }
-    let seen = stack.seen;
-    Step {
-        ok: true,
-        stack: Stack {
-            seen,
-            count: stack.count - 1,
-        },
-    }
+    Some(Stack {
+        count: stack.count - 1,
+        ..stack
+    })
 }
 
 // A module stands, if it is one of m and does not stand yet.
-fn after_module(m: usize, k: usize, stack: Stack) -> Step
+#[tactic(auto, unfolding(crate::specs::Stack::after_module))]
+fn after_module(m: usize, k: usize, stack: Stack) -> Option<Stack>
     requires { (m ≤ most_modules) × (stack.count ≤ most_tokens) }
     ensures { result ≡ after_module m k stack }
 {
-    if m <= k {
-        return Step { ok: false, stack };
-    }
-    if stack.seen[k] {
-        return Step { ok: false, stack };
+    if m <= k || stack.seen[k] {
+        return None;
     }
     let mut seen = stack.seen;
     seen[k] = true;
-    Step {
-        ok: true,
-        stack: Stack {
-            seen,
-            count: stack.count + 1,
-        },
-    }
+    Some(Stack {
+        seen,
+        count: stack.count + 1,
+    })
 }
 
-// What a token does to the stack, of m modules. No more tokens were read than a design has, so the count can grow.
-pub fn after_token(m: usize, token: Token, stack: Stack) -> Step
+// What stands after a token, of m modules, unless it is refused. No more tokens were read than a design has, so the count
+// can grow.
+pub fn after_token(m: usize, token: Token, stack: Stack) -> Option<Stack>
     requires { (m ≤ most_modules) × (stack.count ≤ most_tokens) }
     ensures { result ≡ after_token m token stack }
 {
     match token {
         Token::Cut(_) => after_cut(stack),
         Token::Module(k) => after_module(m, k, stack),
-        Token::Beyond => Step { ok: false, stack },
+        Token::Beyond => None,
     }
 }
 
@@ -177,20 +137,17 @@ fn tree_test(d: Design) -> Result<(), Refusal>
 {
     let m = d.modules;
     let mut stack = empty_stack();
-    for t in 0..2 * m - 1 {
-        let step = after_token(m, token_of(d.tokens[t]), stack);
-        if !step.ok {
-            return Err(Refusal::BadToken(0));
-        }
-        stack = step.stack;
+    for token in &d.tokens[..2 * m - 1] {
+        stack = after_token(m, token_of(*token), stack).ok_or(Refusal::BadToken(0))?;
     }
-    if stack.count == 1 {
-        return Ok(());
+    if stack.count != 1 {
+        return Err(Refusal::NotOneThing(0));
     }
-    Err(Refusal::NotOneThing(0))
+    Ok(())
 }
 
 // The tests that every service runs first: 4 for the limits, then 5 or 6 for the tree, each at position 0.
+#[tactic(auto, using(rules::proofs::Nodes::modules_within), unfolding(rules::specs::Design::value_test))]
 pub fn value_test(d: Design) -> Result<(), Refusal>
     ensures { Tested d result }
 {

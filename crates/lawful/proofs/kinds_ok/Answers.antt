@@ -1,21 +1,18 @@
--- While the loop goes on, every kind so far is one of 01's; the first that is not settles it. The width is within its limit, so every
--- kind read is in the array. Assumes nothing.
-use mathlib.Core.Path.{◌≡◌, sym}
-use native.Mathlib.Omega.{arith}
+-- The chain tests the listed kinds, and so the places below the width, which is within its limit. Assumes nothing.
+use Rattle.std.proofs.Common.{tests}
+use Rattle.std.proofs.lemmas.Iterator.{YieldsList-from_slice}
+use Rattle.std.proofs.lemmas.Iterator.Search.{all_from_yields_List}
+use mathlib.Core.Path.{◌∙◌}
 use borrow.Author.Rules.{rules}
-use borrow.Author.Tests.{le-leb, lt-leb}
-use Rattle.rules.proofs.Testing.{all_none, all_more, all_fails}
+use lib.Dec.{leb}
+use lib.ListN.{take}
+use Rattle.rules.specs.Design.{last_kind}
+use Rattle.lawful.proofs.Listed.{all_listed}
 use Rattle.lawful.proofs.kinds_ok.Goals as goal
-
-pub loop-x-init : goal.loop-x-init
-loop-x-init c = (search rules, all_none _)
-
-pub returns-then-chip-x-gt-LAST_KIND : goal.returns-then-chip-x-gt-LAST_KIND
-returns-then-chip-x-gt-LAST_KIND c = sym (all_fails _ _ _ c.loop-x-test.true (lt-leb _ _ c.if-chip-x-gt-LAST_KIND.true))
-
-pub loop-x-preserved : goal.loop-x-preserved
-loop-x-preserved c = (search rules, all_more _ _ c.loop-x.invariant.1 (le-leb _ _ c.if-chip-x-gt-LAST_KIND.false))
 
 pub returns : goal.returns
 returns c =
-    let e : c.loop-x.x ≡ c.args.chip.width.0 = omega arith in rw e at (sym c.loop-x.invariant.1)
+    let C = c.args.chip in
+    all_from_yields_List (λ k. leb k last_kind) _ _ c.all.result c.all.ensures.ran
+    (YieldsList-from_slice (take C.width.0 C.kinds) cc) (λ x b q k. search (rules, tests))
+    ∙ all_listed _ C.kinds 0 C.width.0 (search rules)

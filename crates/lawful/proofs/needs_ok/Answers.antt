@@ -1,24 +1,17 @@
--- While the loop goes on, every need so far is lawful; the first that is not settles it. The modules are within their limit, so every
--- need read is in the array. Assumes nothing.
-use mathlib.Core.Path.{◌≡◌, sym}
-use native.Mathlib.Omega.{arith}
+-- The chain tests the listed needs, and so the places below the number of modules, which is within its limit. Assumes nothing.
+use Rattle.std.proofs.Common.{tests}
+use Rattle.std.proofs.lemmas.Iterator.{YieldsList-from_slice}
+use Rattle.std.proofs.lemmas.Iterator.Search.{all_from_yields_List}
+use mathlib.Core.Path.{◌∙◌}
 use borrow.Author.Rules.{rules}
-use Rattle.rules.proofs.Testing.{failed, passed, all_none, all_more, all_fails}
+use lib.ListN.{take}
+use Rattle.rules.specs.Design.{no_need, lawful_need}
+use Rattle.lawful.proofs.Listed.{all_listed}
 use Rattle.lawful.proofs.needs_ok.Goals as goal
-
-pub loop-k-init : goal.loop-k-init
-loop-k-init c = (search rules, all_none _)
-
-pub returns-then-not-lawful_need : goal.returns-then-not-lawful_need
-returns-then-not-lawful_need c =
-    sym (all_fails _ _ _ c.loop-k-test.true (failed c.lawful_need.ensures c.if-not-lawful_need.true-raw))
-
-pub loop-k-preserved : goal.loop-k-preserved
-loop-k-preserved c = (
-  search rules,
-  all_more _ _ c.loop-k.invariant.1 (passed c.lawful_need.ensures c.if-not-lawful_need.false-raw),
-)
 
 pub returns : goal.returns
 returns c =
-    let e : c.loop-k.k ≡ c.args.d.modules = omega arith in rw e at (sym c.loop-k.invariant.1)
+    let d = c.args.d in
+    all_from_yields_List lawful_need _ _ c.all.result c.all.ensures.ran
+    (YieldsList-from_slice (take d.modules d.needs) cc) (λ x b q k. search (rules, tests))
+    ∙ all_listed _ d.needs no_need d.modules (search rules)

@@ -1,43 +1,35 @@
--- While the loop goes on, the stack mirrors what stands after the tokens read so far. A refused step settles the reply, since what is
--- refused stays refused; once the tokens are used up, the count of things standing does. Assumes nothing.
-use mathlib.Core.Path.{◌≡◌, sym}
+-- A refused token settles the reply, since what is refused stays refused; once the tokens are used up, the count does. Assumes nothing.
+use Rattle.std.specs.Prelude.{Some, None}
+use Rattle.std.proofs.lemmas.Result.{err_from_is_err_and}
+use Rattle.std.proofs.lemmas.List.{get_or-take}
+use mathlib.Core.Path.{◌≡◌, sym, ◌∙◌}
 use native.Mathlib.Omega.{arith}
-use borrow.Author.Rules.{rules}
-use borrow.Author.Tests.{not-true, not-false}
+use Rattle.rules.specs.declared.Refusal.TheVariants.{BadToken}
 use Rattle.rules.specs.Design.{nodes, token_at}
 use Rattle.lawful.specs.Stack.{after_token}
-use Rattle.lawful.proofs.Mirroring.{stands_first, stands_next, stands_no_more, stands_one, stands_other}
+use Rattle.lawful.proofs.Mirroring.{stands_first, stands_next, stands_no_more}
 use Rattle.lawful.proofs.tree_test.Goals as goal
-use Rattle.lawful.proofs.tree_test.Goals.{After-after_token-step}
+use Rattle.lawful.proofs.tree_test.Goals.{After-after_token}
 
--- the step that the code takes is the token's at this position
-stepped : (c : After-after_token-step)
-    → let a = c.args in let l = c.loop-t in
-    c.after_token-step.result ≡ after_token a.d.modules (token_at a.d l.t) l.stack
-stepped c = rw c.token_of.ensures at c.after_token-step.ensures
+-- the token that the code takes is the one at this position
+taken : (c : After-after_token)
+    → c.after_token.result ≡ after_token c.args.d.modules (token_at c.args.d c.loop-token.token-index) c.loop-token.stack
+taken c = let a = c.token_of.ensures in grind (arith, get_or-take)
 
-pub loop-t-init : goal.loop-t-init
-loop-t-init c = (search rules, rw c.empty_stack-stack.ensures (stands_first _ _))
+pub loop-token-init : goal.loop-token-init
+loop-token-init c = rw c.empty_stack-stack.ensures (stands_first _ _)
 
-pub returns-then-not-step : goal.returns-then-not-step
-returns-then-not-step c =
-    let s = c in let l = s in
-    sym (
-    stands_no_more _ _ l.requires.1 l.loop-t.invariant.1 _ (stepped s.before.before) (not-true _ c.if-not-step.true) _
-    l.loop-t-test.true
-    )
+pub returns-in_err-stack : goal.returns-in_err-stack
+returns-in_err-stack c =
+    let none : c.after_token.result ≡ None = grind arith in
+    let p = err_from_is_err_and c.from_residual.result c.from_residual.ensures.1 in
+    let said = rw none at c.ok_or.ensures.value in
+    let was = c.in_err-stack.was in
+    let bad : c.in_err-stack.field-0.0 ≡ BadToken 0 = cc in
+    let no = stands_no_more _ _ c.requires.1 c.loop-token.invariant (sym (taken c.before.before.before.before) ∙ none) (nodes c.args.d) (omega arith) in
+    rw (p.1, p.2, bad) (sym no)
 
-pub loop-t-preserved : goal.loop-t-preserved
-loop-t-preserved c =
-    let s = c in let l = s in
-    (search rules, stands_next _ _ l.requires.1 l.loop-t.invariant.1 _ (stepped s.before.before.before) (not-false _ c.if-not-step.false))
-
-pub returns-then-stack-eq1 : goal.returns-then-stack-eq1
-returns-then-stack-eq1 c =
-    let l = c in let e : l.loop-t.t ≡ nodes l.args.d = omega arith in
-    sym (stands_one _ _ (rw e at l.loop-t.invariant.1) c.if-stack-eq1.true)
-
-pub returns : goal.returns
-returns c =
-    let l = c in let e : l.loop-t.t ≡ nodes l.args.d = omega arith in
-    sym (stands_other _ _ (rw e at l.loop-t.invariant.1) c.if-stack-eq1.false)
+pub loop-token-preserved : goal.loop-token-preserved
+loop-token-preserved c =
+    let some : c.after_token.result ≡ Some c.in_ok-stack.stack = grind arith in
+    stands_next _ _ c.requires.1 c.loop-token.invariant (sym (taken c.before.before.before) ∙ some)
