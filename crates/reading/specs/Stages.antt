@@ -1,33 +1,11 @@
 -- A design is read in four stages, in file order, each over the design that the last one left; Whole.antt, in proofs/, shows that
--- they are the rules' reading. A stage answers with the design so far, or with a refusal beside zeros.
-use Rattle.std.specs.Prelude.{List, [], ℕ, eqb, Ok, Err}
-use Rattle.rules.specs.declared.Need.{Need}
+-- they are the rules' reading.
+use Rattle.std.specs.Prelude.{List, [], ℕ, eqb}
 use Rattle.rules.specs.declared.Chip.{Chip}
 use Rattle.rules.specs.declared.Design.{Design}
 use Rattle.rules.specs.declared.Refusal.TheVariants.{WrongForm, BreaksLimits}
-use Rattle.rules.specs.Answers.{Reply}
 use Rattle.rules.specs.Design.{most_columns, most_rows, lawful_kind, most_modules, most_tokens, no_need, nodes, width_of, with_chip, with_modules, with_tokens}
-use Rattle.rules.specs.Bytes.{Took, took, refuse, and_then, checked_at, limited_at, row_at, need_of, tokens_at, padded, chip_from, design_from}
-use Rattle.rules.specs.Service.{zeros}
-use Rattle.numbers.specs.declared.NumberReply.{NumberReply}
-use Rattle.numbers.specs.declared.NumberReply.TheVariants.{Number}
-use Rattle.numbers.specs.declared.NumberReply.TheVariants as number
-use Rattle.reading.specs.declared.Stage.{Stage}
-use Rattle.reading.specs.declared.OneNeed.{OneNeed}
-
--- a number's refusal travels whole
-abbrev pub replied : NumberReply → Reply
-replied (Number value next) = (Ok tt)
-replied (number.Refused e) = Err e
-
--- the answers of the code for what the rules take from the bytes
-unfoldable pub stage : Took Design → Stage
-stage (took d next) = record { reply = (Ok tt); next = next; design = d }
-stage (refuse e) = record { reply = Err e; next = 0; design = zeros }
-
-unfoldable pub one_need : Took Need → OneNeed
-one_need (took n next) = record { number = Number n.multipliers next; need = n }
-one_need (refuse e) = record { number = number.Refused e; need = no_need }
+use Rattle.rules.specs.Bytes.{Took, took, and_then, checked_at, limited_at, row_at, need_of, tokens_at, padded, chip_from, design_from}
 
 -- the form number, then W, H and B
 unfoldable pub sizes_at : List ℕ → Took Design

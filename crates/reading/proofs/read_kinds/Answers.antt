@@ -1,30 +1,32 @@
--- While the loop goes on, what is still to be read, put behind the kinds in the array, is the whole row. Assumes nothing.
+-- A kind is a number within its limits. The places that are not read stay zero. Assumes nothing.
+use native.Mathlib.Omega.{arith}
 use borrow.Author.Rules.{rules}
-use Rattle.rules.specs.Bytes.{padded}
-use Rattle.reading.specs.Stages.{stage, kinds_at}
-use Rattle.reading.proofs.Answers.{kind_taken, kind_refused, kind_small}
-use Rattle.reading.proofs.Rows.{row_begun, next_read, next_refused, row_read}
+use Rattle.rules.specs.Design.{most_columns}
+use Rattle.numbers.proofs.Answers.{was_taken, was_refused}
+use Rattle.reading.specs.Stages.{kinds_at}
+use Rattle.reading.proofs.Answers.{kind_limits, kind_small}
+use Rattle.reading.proofs.Rows.{row_begun, next_read, next_refused, row_read, filled}
 use Rattle.reading.proofs.read_kinds.Goals as goal
 
-pub loop-x-init : goal.loop-x-init
-unfolding padded
-loop-x-init c = (search rules, row_begun _ _ _ _ _)
+pub loop-kind-init : goal.loop-kind-init
+loop-kind-init c = row_begun _ (search rules)
 
 pub returns-in_default : goal.returns-in_default
-unfolding stage kinds_at
+unfolding kinds_at
 returns-in_default c =
-    let q = c.in_default.is in
-    let e = next_refused _ _ _ _ _ c.loop-x.invariant.1 c.loop-x-test.true (kind_refused _ _ c.limited-number.ensures q) in
-    simp e (rw q at c.stopped.ensures)
+    let e = rw kind_limits at c.limited-number.ensures in
+    rw (next_refused _ c.loop-kind.invariant (omega arith) (was_refused _ e c.unwrap_err.ensures))
 
-pub overflow_cast-kinds : goal.overflow_cast-kinds
-overflow_cast-kinds c = let k = kind_small _ _ c.limited-number.ensures c.in-Number.is in search rules
+pub overflow_cast-kind : goal.overflow_cast-kind
+overflow_cast-kind c =
+    let e = rw kind_limits at c.limited-number.ensures in
+    let k = kind_small _ _ (was_taken _ e c.in-Ok.is) in search rules
 
-pub loop-x-preserved : goal.loop-x-preserved
-loop-x-preserved c =
-    let q = kind_taken _ _ c.limited-number.ensures c.in-Number.is in
-    (search rules, next_read _ _ _ _ _ c.loop-x.invariant.1 c.loop-x-test.true (search rules) q)
+pub loop-kind-preserved : goal.loop-kind-preserved
+loop-kind-preserved c =
+    let e = rw kind_limits at c.limited-number.ensures in
+    next_read _ c.loop-kind.invariant (omega arith) (was_taken _ e c.in-Ok.is)
 
 pub returns : goal.returns
-unfolding stage kinds_at
-returns c = let i = c.loop-x.invariant.1 in simp (row_read _ _ _ _ _ i c.loop-x-test.false, i.kept)
+unfolding kinds_at
+returns c = rw (row_read _ c.loop-kind.invariant (omega arith), filled most_columns 0 _ _ c.loop-kind.invariant.long)

@@ -1,55 +1,60 @@
--- While the loop goes on, what is still to be read, put behind the tokens in the array, is the whole row, and the stack mirrors
--- what stands. Assumes nothing.
+-- A token that is kept is a byte. The places that are not read stay zero. Assumes nothing.
+use Rattle.std.specs.Prelude.{Some, None}
+use Rattle.std.proofs.lemmas.Result.{err_from_is_err_and}
+use mathlib.Core.Path.{◌≡◌, sym, ◌∙◌}
 use native.Mathlib.Omega.{arith}
 use borrow.Author.Rules.{rules}
-use borrow.Author.Tests.{not-true, not-false}
-use Rattle.rules.specs.Bytes.{padded}
-use Rattle.reading.specs.Stages.{stage, tree_at}
-use Rattle.reading.proofs.Answers.{number_taken, number_refused}
-use Rattle.reading.proofs.Trees.{tokens_begun, token_unread, token_bad, token_byte, token_kept}
-use Rattle.reading.proofs.Trees.{one_stands, not_one_stands}
+use Rattle.rules.specs.declared.Refusal.TheVariants.{BadToken}
+use Rattle.rules.specs.Tree.{token_of}
+use Rattle.rules.specs.Design.{most_modules, most_tokens}
+use Rattle.lawful.specs.Stack.{after_token}
+use Rattle.numbers.proofs.Answers.{was_taken, was_refused}
+use Rattle.reading.specs.Stages.{tree_at}
+use Rattle.reading.proofs.Rows.{filled}
+use Rattle.reading.proofs.Trees.{tokens_begun, token_unread, token_bad, token_byte, token_kept, one_stands, not_one_stands}
 use Rattle.reading.proofs.read_tokens.Goals as goal
+use Rattle.reading.proofs.read_tokens.Goals.{In_ok-stack}
 
-pub loop-t-init : goal.loop-t-init
-unfolding padded
-loop-t-init c = (search rules, rw c.empty_stack-stack.ensures (tokens_begun _ _ _ _))
+-- the token that is kept
+kept : (c : In_ok-stack) → after_token c.args.last.value.modules (token_of most_modules c.in-Ok.taken.value) c.loop-byte.stack ≡ Some c.in_ok-stack.stack
+kept c =
+    let e : c.after_token.result ≡ Some c.in_ok-stack.stack = grind arith in
+    rw c.token_of_number-token.ensures at (sym c.after_token.ensures ∙ e)
+
+pub loop-byte-init : goal.loop-byte-init
+loop-byte-init c = rw c.empty_stack-stack.ensures (tokens_begun _ _ _ _ (search rules))
 
 pub returns-in_default : goal.returns-in_default
-unfolding stage tree_at
+unfolding tree_at
 returns-in_default c =
-    let q = c.in_default.is in
-    simp (token_unread c.loop-t.invariant.1 c.loop-t-test.true (number_refused _ _ c.take_number-number.ensures q))
-    (rw q at c.stopped.ensures)
+    rw (token_unread c.loop-byte.invariant (omega arith) (was_refused _ c.take_number-number.ensures c.unwrap_err.ensures))
 
-pub returns-then-not-step : goal.returns-then-not-step
-unfolding stage tree_at
-returns-then-not-step c =
-    let q = number_taken _ _ c.take_number-number.ensures c.in-Number.is in
-    let u = c.token_of_number.ensures in let o = not-true _ c.if-not-step.true in
-    simp (token_bad c.loop-t.invariant.1 c.loop-t-test.true q (search rules) u c.after_token-step.ensures o)
-    c.stopped-then-not-step.ensures
+pub returns-in_err-stack : goal.returns-in_err-stack
+unfolding tree_at
+returns-in_err-stack c =
+    let none : c.after_token.result ≡ None = grind arith in
+    let p = err_from_is_err_and c.from_residual.result c.from_residual.ensures.1 in
+    let said = rw none at c.ok_or.ensures.value in
+    let was = c.in_err-stack.was in
+    let bad : c.in_err-stack.field-0.0 ≡ BadToken c.loop-byte.at = cc in
+    let q = was_taken _ c.take_number-number.ensures c.in-Ok.is in
+    let o = rw c.token_of_number-token.ensures at (sym c.after_token.ensures ∙ none) in
+    rw (p.1, p.2, bad, token_bad c.loop-byte.invariant (omega arith) q (search rules) o)
 
-pub overflow_cast-tokens : goal.overflow_cast-tokens
-overflow_cast-tokens c =
-    let q = number_taken _ _ c.take_number-number.ensures c.in-Number.is in
-    let u = c.token_of_number.ensures in
-    let b = token_byte c.loop-t.invariant.1 c.loop-t-test.true q (search rules) u c.after_token-step.ensures in
-    omega (arith, b (not-false _ c.if-not-step.false))
+pub overflow_cast-byte : goal.overflow_cast-byte
+overflow_cast-byte c =
+    let q = was_taken _ c.take_number-number.ensures c.in-Ok.is in
+    omega (arith, token_byte c.loop-byte.invariant (omega arith) q (search rules) (kept (goal.at.overflow_cast-byte c).In_ok-stack))
 
-pub loop-t-preserved : goal.loop-t-preserved
-loop-t-preserved c =
-    let q = number_taken _ _ c.take_number-number.ensures c.in-Number.is in
-    let u = c.token_of_number.ensures in let o = not-false _ c.if-not-step.false in
-    let k = token_kept c.loop-t.invariant.1 c.loop-t-test.true q (search rules) u c.after_token-step.ensures o in
-    (search rules, k (search rules))
+pub loop-byte-preserved : goal.loop-byte-preserved
+loop-byte-preserved c =
+    let q = was_taken _ c.take_number-number.ensures c.in-Ok.is in
+    token_kept c.loop-byte.invariant (omega arith) q (search rules) (kept (goal.at.loop-byte-preserved c).In_ok-stack)
 
 pub returns-then-stack-ne1 : goal.returns-then-stack-ne1
-unfolding stage tree_at
-returns-then-stack-ne1 c =
-    simp (not_one_stands c.loop-t.invariant.1 c.loop-t-test.false c.if-stack-ne1.true) c.stopped-then-stack-ne1.ensures
+unfolding tree_at
+returns-then-stack-ne1 c = rw (not_one_stands c.loop-byte.invariant (omega arith) c.if-stack-ne1.true)
 
 pub returns : goal.returns
-unfolding stage tree_at
-returns c =
-    let i = c.loop-t.invariant.1 in
-    simp (one_stands i c.loop-t-test.false c.if-stack-ne1.false, i.reading.kept)
+unfolding tree_at
+returns c = rw (one_stands c.loop-byte.invariant (omega arith) c.if-stack-ne1.false, filled most_tokens 0 _ _ c.loop-byte.invariant.long)
