@@ -1,88 +1,104 @@
-// Answers as text in lent bytes. Each function puts its part at `at` and gives the position after it; what has no room is
-// left out, and there is room for every answer.
+// Answers as text in lent bytes. What is put goes behind what stands there; what has no room is left out, and there is room
+// for every answer, so putting never fails.
 #![tactic(auto)]
 
-mod bits;
-mod hash;
+mod shown;
 
-ghost use Rattle.std.specs.Prelude.{◌≤◌, length};
+ghost use Rattle.std.specs.Prelude.{◌≡◌, ◌==◌, ◌∷◌, [], length};
+ghost use Rattle.telling.specs.Said.{with_bytes};
 
-pub use bits::put_bits;
-pub use hash::put_hash;
+pub use shown::{Bits, Hash, Hex};
+use std::fmt;
+use std::fmt::Write;
+use std::marker::Model;
 
-// Puts one byte.
-pub fn put_byte(out: &mut [u8], at: usize, b: u8) -> usize
-    requires { at ≤ length out.old }
-    ensures { result ≤ length out.new }
-{
-    if at < out.len() {
-        out[at] = b;
-        return at + 1;
+// Text in lent bytes: those in front are put, the others are not yet.
+#[derive(Drop)]
+pub struct Text<'a> {
+    bytes: &'a mut [u8],
+    len: usize,
+}
+
+impl<'a> Model for Text<'a> {
+    ghost use Rattle.std.specs.Prelude.{◌≤◌, length, take};
+    ghost use Rattle.telling.specs.Said.{Said};
+
+    ghost Value = { Said };
+
+    ghost view = { λ t. record { text = take t.len t.bytes.now; room = length t.bytes.now } };
+
+    ghost invariant = { λ t. t.len ≤ length t.bytes.now };
+}
+
+impl<'a> Text<'a> {
+    // A text with nothing put yet.
+    pub fn new(bytes: &'a mut [u8]) -> Self
+        ensures { result ≡ record { text = []; room = length bytes.old } }
+    {
+        Text { bytes, len: 0 }
     }
-    at
-}
 
-// Puts a word, or any bytes, as they are.
-pub fn put_word(out: &mut [u8], at: usize, word: &[u8]) -> usize
-    requires { at ≤ length out.old }
-    ensures { result ≤ length out.new }
-{
-    let mut next = at;
-    for i in 0..word.len() {
-        next = put_byte(out, next, word[i]);
+    // What is put so far.
+    pub fn said(&self) -> &[u8]
+        ensures { result.now ≡ self.now.text }
+    {
+        &self.bytes[..self.len]
     }
-    next
-}
 
-// Puts a number in decimal, with a byte before it that parts it from what stands there.
-pub fn put_number(out: &mut [u8], at: usize, parting: u8, n: usize) -> usize
-    requires { at ≤ length out.old }
-    ensures { result ≤ length out.new }
-{
-    let mut digits = [0u8; 20];
-    let k = io::decimal(n as u64, &mut digits);
-    let next = put_byte(out, at, parting);
-    put_word(out, next, &digits[0..k])
-}
-
-// Puts numbers, such a byte before each.
-pub fn put_numbers(out: &mut [u8], at: usize, parting: u8, numbers: &[usize]) -> usize
-    requires { at ≤ length out.old }
-    ensures { result ≤ length out.new }
-{
-    let mut next = at;
-    for i in 0..numbers.len() {
-        next = put_number(out, next, parting, numbers[i]);
+    // Whether there is no room left.
+    pub fn is_full(&self) -> bool
+        ensures { result ≡ (length self.now.text == self.now.room) }
+    {
+        self.len == self.bytes.len()
     }
-    next
-}
 
-// Puts a number in hexadecimal, of at least so many digits.
-fn put_digits(out: &mut [u8], at: usize, width: usize, n: u64) -> usize
-    requires { at ≤ length out.old }
-    ensures { result ≤ length out.new }
-{
-    let mut digits = [0u8; 16];
-    let k = io::hex(n, width, &mut digits);
-    put_word(out, at, &digits[0..k])
-}
-
-// Puts bytes in hexadecimal, a space before them; `-` for none.
-pub fn put_hex(out: &mut [u8], at: usize, bytes: &[u8]) -> usize
-    requires { at ≤ length out.old }
-    ensures { result ≤ length out.new }
-{
-    if bytes.len() == 0 {
-        return put_word(out, at, b" -");
+    // Nothing is put any more.
+    pub fn clear(&mut self)
+        ensures { self.new ≡ record { text = []; room = self.old.room } }
+    {
+        self.len = 0;
     }
-    let mut next = put_byte(out, at, b' ');
-    for i in 0..bytes.len() {
-        next = put_digits(out, next, 2, wide(bytes[i]));
+
+    // Puts one byte.
+    pub fn put_byte(&mut self, b: u8)
+        ensures { self.new ≡ with_bytes self.old (b ∷ []) }
+    {
+        if self.len < self.bytes.len() {
+            self.bytes[self.len] = b;
+            self.len += 1;
+        }
     }
-    next
+
+    // Puts bytes as they are.
+    pub fn put_bytes(&mut self, bytes: &[u8])
+        ensures { self.new ≡ with_bytes self.old bytes.now }
+    {
+        // what is put has room: the proof needs it where there are no bytes
+        let _ = &self.bytes;
+        for b in bytes {
+            self.put_byte(*b);
+        }
+    }
+
+    // Puts numbers in decimal, such a byte before each.
+    pub fn put_numbers(&mut self, parting: u8, numbers: &[usize]) -> fmt::Result {
+        for n in numbers {
+            self.put_byte(parting);
+            write!(self, "{n}")?;
+        }
+        Ok(())
+    }
 }
 
-// A byte as a number.
-fn wide(b: u8) -> u64 {
-    b as u64
+// So `write!` puts what it prints.
+impl<'a> Write for Text<'a> {
+    ghost use Rattle.std.specs.Prelude.{◌≡◌};
+    ghost use Rattle.telling.specs.Said.{with_bytes};
+
+    ghost write_str_gives = { λ before s after. after ≡ with_bytes before s };
+
+    fn write_str(&mut self, s: &str) -> fmt::Result {
+        self.put_bytes(s.as_bytes());
+        Ok(())
+    }
 }

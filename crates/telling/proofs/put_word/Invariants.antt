@@ -1,7 +1,0 @@
--- The position stays inside the bytes, which keep their number. The measure is how many bytes are left to put. Assumes nothing.
-use Rattle.std.proofs.Common.{◌≡◌, ◌≤◌, length}
-use Rattle.telling.proofs.put_word.Given as goal
-
-abbrev pub invariant-loop-i : goal.invariant-loop-i
-invariant-loop-i l =
-    (l.i ≤ l.i-end) × (l.i-end ≡ length l.word) × (l.next ≤ length l.out) × (length l.out ≡ length l.initial.out)
