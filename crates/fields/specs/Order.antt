@@ -1,6 +1,6 @@
 -- 01: "Order: form number 1, W, H, B, W kinds, m, three needs for each module, 2m-1 tokens. Nothing follows." Which number that is by
 -- its place in the row of numbers, counted from 0; and where in the bytes it begins.
-use Rattle.std.specs.Prelude.{Bool, true, false, List, ℕ, zero, suc, ◌+◌, ◌-◌, ◌*◌, ◌/◌, ◌%◌, ltb}
+use Rattle.std.specs.Prelude.{Bool, true, false, Option, Some, None, List, ℕ, zero, suc, ◌+◌, ◌-◌, ◌*◌, ◌/◌, ◌%◌, ltb}
 use Rattle.rules.specs.Bytes.{Took, took, refuse, number_at}
 use Rattle.fields.specs.declared.Field.{Field}
 use Rattle.fields.specs.declared.Field.TheVariants.{Form, Width, Height, Block, Kind, Modules, Clbs, Rams, Multipliers, Token, After}
@@ -12,6 +12,14 @@ next at (refuse e) = at
 
 unfoldable pub after_number : List ℕ → ℕ → ℕ
 after_number s at = next at (number_at s at)
+
+-- the value of the number that stands there, if any does
+abbrev pub value : Took ℕ → Option ℕ
+value (took v n) = Some v
+value (refuse e) = None
+
+unfoldable pub value_at : List ℕ → ℕ → Option ℕ
+value_at s at = value (number_at s at)
 
 unfoldable pub place_of : List ℕ → ℕ → ℕ
 place_of s zero = 0

@@ -4,9 +4,8 @@
 mod names;
 
 ghost use Rattle.std.specs.Prelude.{◌≡◌};
-ghost use Rattle.fields.specs.Order.{after_number, place_of, need_number, need_or_token, after_kinds, field_of};
+ghost use Rattle.fields.specs.Order.{after_number, value_at, place_of, need_number, need_or_token, after_kinds, field_of};
 
-pub use names::{put_counted, put_field};
 use numbers::{NumberReply, take_number};
 use rules::MOST_COLUMNS;
 
@@ -35,6 +34,7 @@ pub struct Place {
 }
 
 // The position after the number at `at`, or `at` if no number stands there.
+#[tactic(auto, unfolding(crate::specs::Order::after_number), using(numbers::proofs::Answers::was_taken, numbers::proofs::Answers::was_refused))]
 fn after_number(s: &[u8], at: usize) -> usize
     ensures { result ≡ after_number s.now at }
 {
@@ -44,7 +44,19 @@ fn after_number(s: &[u8], at: usize) -> usize
     }
 }
 
+// The value of the number at `at`, if one stands there.
+#[tactic(auto, unfolding(crate::specs::Order::value_at), using(numbers::proofs::Answers::was_taken, numbers::proofs::Answers::was_refused))]
+pub fn value_at(s: &[u8], at: usize) -> Option<usize>
+    ensures { result ≡ value_at s.now at }
+{
+    match take_number(s, at) {
+        NumberReply::Number { value, next: _ } => Some(value),
+        NumberReply::Refused(_) => None,
+    }
+}
+
 // Where number n begins, counted from 0.
+#[tactic(auto, unfolding(crate::specs::Order::place_of))]
 fn place_of(s: &[u8], n: usize) -> usize
     ensures { result ≡ place_of s.now n }
 {
@@ -55,15 +67,15 @@ fn place_of(s: &[u8], n: usize) -> usize
     at
 }
 
-// The value of number n, counted from 0; 0 if the bytes have no such number.
-pub fn value_of(s: &[u8], n: usize) -> usize {
-    match take_number(s, place_of(s, n)) {
-        NumberReply::Number { value, next: _ } => value,
-        NumberReply::Refused(_) => 0,
-    }
+// The value of number n, counted from 0, if the bytes have such a number.
+pub fn value_of(s: &[u8], n: usize) -> Option<usize>
+    ensures { result ≡ value_at s.now (place_of s.now n) }
+{
+    value_at(s, place_of(s, n))
 }
 
 // The first number that begins at a position or after it. A number takes at least a byte, so no more are passed than there are bytes.
+#[tactic(auto, unfolding(crate::specs::Order::place_of))]
 pub fn number_from(s: &[u8], position: usize) -> Place
     ensures { result.at ≡ place_of s.now result.index }
 {
@@ -89,6 +101,7 @@ fn need_number(k: usize, which: usize) -> Field
 }
 
 // After m: three numbers for each module, then the tokens.
+#[tactic(auto, unfolding(crate::specs::Order::need_or_token))]
 fn need_or_token(m: usize, n: usize) -> Field
     ensures { result ≡ need_or_token m n }
 {
@@ -148,13 +161,13 @@ pub struct Sizes {
 
 // A width past its limit has no m after it: reading ends there.
 pub fn sizes_of(s: &[u8]) -> Sizes {
-    let width = value_of(s, 1);
+    let width = value_of(s, 1).unwrap_or(0);
     if width > MOST_COLUMNS {
         return Sizes { width, modules: 0 };
     }
     Sizes {
         width,
-        modules: value_of(s, 4 + width),
+        modules: value_of(s, 4 + width).unwrap_or(0),
     }
 }
 
