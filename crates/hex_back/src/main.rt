@@ -4,6 +4,7 @@
 #![tactic(auto)]
 
 use taking::{say_unread, take_all, write_or_say};
+use telling::Text;
 use typed::answer_back;
 
 // A byte more than the most that are turned, to tell whether there are more. No design has so many.
@@ -23,6 +24,7 @@ fn main(rt: HostRuntime) {
     }
     let count = taken.count;
     let mut out = [0u8; TEXT_SIZE];
-    let length = answer_back(&bytes[0..count], MOST_BYTES, &mut out);
-    write_or_say(&rt, &out[0..length]);
+    let mut answer = Text::new(&mut out);
+    answer_back(&bytes[0..count], MOST_BYTES, &mut answer);
+    write_or_say(&rt, answer.said());
 }

@@ -3,6 +3,7 @@
 #![tactic(auto)]
 
 use taking::{say_unread, take_all, write_or_say};
+use telling::Text;
 use typed::answer_text;
 
 // A byte more than the longest text, to tell whether there is more.
@@ -19,6 +20,7 @@ fn main(rt: HostRuntime) {
     }
     let count = taken.count;
     let mut out = [0u8; TEXT_SIZE];
-    let length = answer_text(&text[0..count], MOST_TEXT, &mut out);
-    write_or_say(&rt, &out[0..length]);
+    let mut answer = Text::new(&mut out);
+    answer_text(&text[0..count], MOST_TEXT, &mut answer);
+    write_or_say(&rt, answer.said());
 }

@@ -6,6 +6,7 @@ ghost use Rattle.std.specs.Prelude.{◌+◌, ◌≤◌, ◌<◌, length};
 
 use check::same;
 use taking::{say_unread, take_all, write_or_say};
+use telling::Text;
 use typed::{answer_back, answer_text};
 
 const ALL_CASES: usize = 65536;
@@ -44,11 +45,11 @@ fn is_done(answer: &[u8]) -> bool {
 }
 
 // Turns an answer's bytes back, and prints the text and whether it says the same.
-fn turn_back(rt: &(impl Print + Eprint), answer: &[u8], back: &mut [u8], again: &mut [u8]) {
-    let n = answer_back(rest(answer), ROOM, back);
-    write_or_say(rt, rest(&back[0..n]));
-    let k = answer_text(rest(&back[0..n]), ROOM, again);
-    if same(&again[0..k], answer) {
+fn turn_back(rt: &(impl Print + Eprint), answer: &[u8], back: &mut Text, again: &mut Text) {
+    answer_back(rest(answer), ROOM, back);
+    write_or_say(rt, rest(back.said()));
+    answer_text(rest(back.said()), ROOM, again);
+    if same(again.said(), answer) {
         write_or_say(rt, b"same\n");
         return;
     }
@@ -59,16 +60,16 @@ fn turn_back(rt: &(impl Print + Eprint), answer: &[u8], back: &mut [u8], again: 
 fn turn_text(
     rt: &(impl Print + Eprint),
     text: &[u8],
-    bytes: &mut [u8],
-    back: &mut [u8],
-    again: &mut [u8],
+    bytes: &mut Text,
+    back: &mut Text,
+    again: &mut Text,
 ) {
-    let n = answer_text(text, ROOM, bytes);
-    if is_done(&bytes[0..n]) {
-        turn_back(rt, &bytes[0..n], back, again);
+    answer_text(text, ROOM, bytes);
+    if is_done(bytes.said()) {
+        turn_back(rt, bytes.said(), back, again);
         return;
     }
-    write_or_say(rt, rest(&bytes[0..n]));
+    write_or_say(rt, rest(bytes.said()));
 }
 
 // Turns the case at a place, and gives the place of the next one.
@@ -76,9 +77,9 @@ fn run_case(
     rt: &(impl Print + Eprint),
     cases: &[u8],
     at: usize,
-    bytes: &mut [u8],
-    back: &mut [u8],
-    again: &mut [u8],
+    bytes: &mut Text,
+    back: &mut Text,
+    again: &mut Text,
 ) -> usize
     requires { at + 2 ≤ length cases.now }
     ensures { (at < result) × (result ≤ length cases.now) }
@@ -94,9 +95,9 @@ fn run_case(
 fn run_cases(
     rt: &(impl Print + Eprint),
     cases: &[u8],
-    bytes: &mut [u8],
-    back: &mut [u8],
-    again: &mut [u8],
+    bytes: &mut Text,
+    back: &mut Text,
+    again: &mut Text,
 ) {
     let mut at = 0;
     while at + 2 <= cases.len() {
@@ -116,8 +117,8 @@ fn main(rt: HostRuntime) {
     run_cases(
         &rt,
         &input[0..taken.count],
-        &mut bytes,
-        &mut back,
-        &mut again,
+        &mut Text::new(&mut bytes),
+        &mut Text::new(&mut back),
+        &mut Text::new(&mut again),
     );
 }

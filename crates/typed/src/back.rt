@@ -1,151 +1,112 @@
 // A design's bytes as text: each number on a line, with a comment that says what it is.
-ghost use Rattle.std.specs.Prelude.{◌+◌, ◌≤◌, ◌<◌, length};
+ghost use Rattle.std.specs.Prelude.{◌+◌, ◌≤◌, ◌<◌, ◌^◌, length};
+ghost use Rattle.std.specs.Iterator.{at_most};
 
-use crate::digits::digit_of;
-use fields::{Field, field_of, put_field, sizes_of};
+use fields::{Field, Sizes, field_of, sizes_of};
 use numbers::{NumberReply, take_number};
-use telling::{put_byte, put_number, put_word};
+use std::fmt;
+use std::fmt::Write;
+use telling::{Hex, Text};
 
-// How far the bytes are put: the next number is the so-manieth, begins at `from`, and its line at `at`.
+// What a number says, by what it is.
 #[derive(Clone, Copy)]
-struct Put {
+struct Meaning {
+    field: Field,
+    value: Option<usize>,
+}
+
+impl fmt::Display for Meaning {
+    fn fmt<W: Write>(&self, f: &mut fmt::Formatter<W>) -> fmt::Result {
+        let Some(value) = self.value else {
+            return write!(f, "no whole number");
+        };
+        match (self.field, value) {
+            (Field::Kind(_), 0) => write!(f, "CLB"),
+            (Field::Kind(_), 1) => write!(f, "RAM"),
+            (Field::Kind(_), 2) => write!(f, "multiplier"),
+            (Field::Token { .. }, 0) => write!(f, "a vertical cut"),
+            (Field::Token { .. }, 1) => write!(f, "a horizontal cut"),
+            (Field::Token { .. }, _) => write!(f, "module {}", value - 2),
+            _ => write!(f, "{value}"),
+        }
+    }
+}
+
+// How many bytes the number takes that begins these, and its value; where none begins, one byte and no value.
+#[tactic(auto, unfolding(rules::specs::Bytes::number_at, rules::specs::Bytes::second_byte, rules::specs::Bytes::third_byte), using(numbers::proofs::Answers::was_taken))]
+fn first_of(s: &[u8]) -> (usize, Option<usize>)
+    requires { 0 < length s.now }
+    ensures { (0 < result.0) × (result.0 ≤ length s.now) }
+{
+    match take_number(s, 0) {
+        NumberReply::Number { value, next } => (next, Some(value)),
+        NumberReply::Refused(_) => (1, None),
+    }
+}
+
+// A number's bytes, what it is and its value; or a byte that begins none.
+#[derive(Drop)]
+struct Line<'a> {
+    bytes: &'a [u8],
+    field: Field,
+    value: Option<usize>,
+}
+
+impl<'a> fmt::Display for Line<'a> {
+    fn fmt<W: Write>(&self, f: &mut fmt::Formatter<W>) -> fmt::Result {
+        let field = self.field;
+        let value = self.value;
+        write!(
+            f,
+            "{}  # {field}: {}",
+            Hex(self.bytes),
+            Meaning { field, value }
+        )
+    }
+}
+
+// The lines of a design's bytes. The next number is the so-manieth; where none begins it is tried a byte further.
+#[derive(Drop)]
+struct Lines<'a> {
+    rest: &'a [u8],
+    sizes: Sizes,
     index: usize,
-    from: usize,
-    at: usize,
+    ghost fits: { index + length rest.now < 2 ^ 64 },
 }
 
-// Puts a byte as two digits.
-pub fn put_digits(out: &mut [u8], at: usize, b: u8) -> usize
-    requires { at ≤ length out.old }
-    ensures { result ≤ length out.new }
-{
-    let next = put_byte(out, at, digit_of(b / 16));
-    put_byte(out, next, digit_of(b % 16))
-}
+impl<'a> Iterator for Lines<'a> {
+    type Item = Line<'a>;
 
-// Puts the byte at a position, if there is one.
-fn put_at(out: &mut [u8], at: usize, s: &[u8], i: usize) -> usize
-    requires { at ≤ length out.old }
-    ensures { result ≤ length out.new }
-{
-    if i < s.len() {
-        return put_digits(out, at, s[i]);
-    }
-    at
-}
+    ghost remaining = { λ s. at_most (length s.rest.now) };
 
-// Puts the bytes from one position to another.
-fn put_bytes(out: &mut [u8], at: usize, s: &[u8], from: usize, to: usize) -> usize
-    requires { at ≤ length out.old }
-    ensures { result ≤ length out.new }
-{
-    let mut next = at;
-    for i in from..to {
-        next = put_at(out, next, s, i);
-    }
-    next
-}
-
-// Puts what a kind says.
-fn put_kind(out: &mut [u8], at: usize, value: usize) -> usize
-    requires { at ≤ length out.old }
-    ensures { result ≤ length out.new }
-{
-    match value {
-        0 => put_word(out, at, b" CLB"),
-        1 => put_word(out, at, b" RAM"),
-        2 => put_word(out, at, b" multiplier"),
-        _ => put_number(out, at, b' ', value),
-    }
-}
-
-// Puts what a token says.
-fn put_token(out: &mut [u8], at: usize, value: usize) -> usize
-    requires { at ≤ length out.old }
-    ensures { result ≤ length out.new }
-{
-    match value {
-        0 => put_word(out, at, b" a vertical cut"),
-        1 => put_word(out, at, b" a horizontal cut"),
-        _ => {
-            let next = put_word(out, at, b" module");
-            put_number(out, next, b' ', value - 2)
+    fn next(&mut self) -> Option<Line<'a>> {
+        if self.rest.is_empty() {
+            return None;
         }
-    }
-}
-
-// Puts what a number says, by what it is.
-fn put_value(out: &mut [u8], at: usize, field: Field, value: usize) -> usize
-    requires { at ≤ length out.old }
-    ensures { result ≤ length out.new }
-{
-    match field {
-        Field::Kind(_) => put_kind(out, at, value),
-        Field::Token { number: _, of: _ } => put_token(out, at, value),
-        _ => put_number(out, at, b' ', value),
-    }
-}
-
-// Puts a comment's beginning, which says what the number is.
-fn put_comment(out: &mut [u8], at: usize, field: Field) -> usize
-    requires { at ≤ length out.old }
-    ensures { result ≤ length out.new }
-{
-    let next = put_word(out, at, b"  # ");
-    let next = put_field(out, next, field);
-    put_byte(out, next, b':')
-}
-
-// Puts the line of a number; of one that is refused a byte, so that the next one is tried.
-fn put_line(out: &mut [u8], put: Put, s: &[u8], w: usize, m: usize) -> Put
-    requires { (put.at ≤ length out.old) × (put.index < length s.now) × (put.from < length s.now) }
-    ensures { (result.at ≤ length out.new) × (result.index ≤ put.index + 1) }
-{
-    let from = put.from;
-    let past = from + 1;
-    let index = put.index + 1;
-    let field = field_of(w, m, put.index);
-    match take_number(s, from) {
-        NumberReply::Number { value, next } => {
-            let at = put_bytes(out, put.at, s, from, next);
-            let at = put_comment(out, at, field);
-            let at = put_value(out, at, field, value);
-            let at = put_byte(out, at, b'\n');
-            Put {
-                index,
-                from: next,
-                at,
-            }
+        let field = field_of(self.sizes.width, self.sizes.modules, self.index);
+        let (taken, value) = first_of(self.rest);
+        let (bytes, rest) = self.rest.split_at(taken);
+        self.rest = rest;
+        if value.is_some() {
+            self.index += 1;
         }
-        NumberReply::Refused(_) => {
-            let at = put_bytes(out, put.at, s, from, past);
-            let at = put_comment(out, at, field);
-            let at = put_word(out, at, b" no whole number\n");
-            Put {
-                index: put.index,
-                from: past,
-                at,
-            }
-        }
+        Some(Line {
+            bytes,
+            field,
+            value,
+        })
     }
 }
 
 // Puts a design's bytes as text.
-pub fn put_back(out: &mut [u8], at: usize, s: &[u8]) -> usize
-    requires { at ≤ length out.old }
-    ensures { result ≤ length out.new }
-{
-    let sizes = sizes_of(s);
-    let mut put = Put {
+pub fn put_back(text: &mut Text, s: &[u8]) {
+    let lines = Lines {
+        rest: s,
+        sizes: sizes_of(s),
         index: 0,
-        from: 0,
-        at,
     };
-    for _ in 0..s.len() {
-        if put.from >= s.len() {
-            return put.at;
-        }
-        put = put_line(out, put, s, sizes.width, sizes.modules);
+    for line in lines {
+        // putting never fails
+        let _ = writeln!(text, "{line}");
     }
-    put.at
 }

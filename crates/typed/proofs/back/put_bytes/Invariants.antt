@@ -1,7 +1,0 @@
--- The position stays inside the bytes. Assumes nothing.
-use Prim.Native.Nat.{◌≤◌}
-use lib.ListN.{length}
-use Rattle.typed.proofs.back.put_bytes.Given as goal
-
-abbrev pub invariant-loop-i : goal.invariant-loop-i
-invariant-loop-i l = l.next ≤ length l.out
