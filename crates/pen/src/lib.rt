@@ -1,11 +1,12 @@
-// Lines of a drawing, written one after the other to standard output, and whether every one was written whole.
+// Lines of a drawing, written one after the other to standard output. The first that can't be written whole ends the drawing.
 #![tactic(auto)]
 
-ghost use Rattle.std.specs.Prelude.{◌≤◌, length};
+ghost use Rattle.std.specs.Prelude.{◌≡◌};
 
+use std::fmt;
+use std::fmt::{Display, Write};
 use std::io::Stdout;
-use std::num::wrapping_add_usize;
-use telling::{put_byte, put_number, put_word};
+use telling::Text;
 
 // Bytes enough for any line.
 pub const LINE_SIZE: usize = 1_024;
@@ -17,140 +18,85 @@ const NAME_LEFT: usize = 24;
 
 const WORDS_LEFT: usize = 44;
 
-// Lines are text, or they are SVG at height y; dry, they are counted and not written. It is fine as long as every line was
-// written whole. It has said so many cuts. It writes to standard output, which only main can lend it.
+// What lines of words are: text, or SVG at height y.
 #[derive(Clone, Copy)]
-pub struct Pen {
-    pub svg: bool,
-    pub dry: bool,
-    pub y: usize,
+pub enum Form {
+    Text,
+    Svg { y: usize },
+}
+
+// Writes lines to standard output, which only main can lend it; a dry pen has no output, and nothing that it writes fails. It
+// has said so many cuts.
+#[derive(Drop)]
+pub struct Pen<'a> {
+    pub form: Form,
     pub cuts: usize,
-    pub fine: bool,
-    pub out: Stdout,
+    out: Option<Stdout>,
+    line: Text<'a>,
 }
 
-// Puts a number in decimal, with nothing before it.
-pub fn put_figure(out: &mut [u8], at: usize, n: usize) -> usize
-    requires { at ≤ length out.old }
-    ensures { result ≤ length out.new }
-{
-    let mut digits = [0u8; 20];
-    let k = io::decimal(n as u64, &mut digits);
-    put_word(out, at, &digits[0..k])
-}
-
-// Puts an attribute of an SVG element: ` name=` and the number as its value.
-pub fn put_attribute(out: &mut [u8], at: usize, name: &[u8], n: usize) -> usize
-    requires { at ≤ length out.old }
-    ensures { result ≤ length out.new }
-{
-    let next = put_word(out, at, name);
-    let next = put_number(out, next, b'"', n);
-    put_byte(out, next, b'"')
-}
-
-// Every byte of a line is written. A line that fills its room may have lost its end, so it counts as not written.
-fn is_written(out: Stdout, line: &[u8], n: usize) -> bool
-    requires { n ≤ length line.now }
-{
-    if n == line.len() {
-        return false;
+impl<'a> Pen<'a> {
+    // A pen that has said no cut; each line has as many bytes as `line`.
+    pub fn new(form: Form, out: Option<Stdout>, line: &'a mut [u8]) -> Self
+        ensures { (result.form ≡ form) × (result.cuts ≡ 0) }
+    {
+        Pen {
+            form,
+            cuts: 0,
+            out,
+            line: Text::new(line),
+        }
     }
-    out.write_all(&line[0..n]).is_ok()
-}
 
-// Writes the first n bytes of a line.
-pub fn write(pen: Pen, line: &[u8], n: usize) -> Pen
-    requires { n ≤ length line.now }
-{
-    if pen.dry {
-        return pen;
+    // It has said one more.
+    pub fn count_cut(&mut self) {
+        self.cuts = self.cuts.wrapping_add(1);
     }
-    if !pen.fine {
-        return pen;
+
+    // Writes a line as it is.
+    pub fn write_line<D: Display + Drop>(&mut self, line: D) -> fmt::Result {
+        writeln!(self.line, "{line}")?;
+        self.write()
     }
-    Pen {
-        svg: pen.svg,
-        dry: false,
-        y: pen.y,
-        cuts: pen.cuts,
-        fine: is_written(pen.out, line, n),
-        out: pen.out,
+
+    // Writes a region's name.
+    pub fn say_name<D: Display + Drop>(&mut self, name: D) -> fmt::Result {
+        match self.form {
+            Form::Text => self.write_line(name),
+            Form::Svg { y } => {
+                write!(self.line, "<text x=\"{NAME_LEFT}\" y=\"{y}\" font-weight=\"bold\">{name}")?;
+                self.end_words(y)
+            }
+        }
     }
-}
 
-// Writes a line as it is.
-pub fn write_words(pen: Pen, line: &mut [u8], words: &[u8]) -> Pen {
-    let n = put_word(line, 0, words);
-    write(pen, line, n)
-}
-
-// Starts a line of words about a region: its name, or what is said of it, further in.
-fn start(pen: Pen, line: &mut [u8], left: usize, end: &[u8], indent: &[u8]) -> usize
-    ensures { result ≤ length line.new }
-{
-    if !pen.svg {
-        return put_word(line, 0, indent);
+    // Writes what is said of a region, further in.
+    pub fn say_words<D: Display + Drop>(&mut self, words: D) -> fmt::Result {
+        match self.form {
+            Form::Text => self.write_line(format_args!("   {words}")),
+            Form::Svg { y } => {
+                write!(self.line, "<text x=\"{WORDS_LEFT}\" y=\"{y}\">{words}")?;
+                self.end_words(y)
+            }
+        }
     }
-    let at = put_word(line, 0, b"<text");
-    let at = put_attribute(line, at, b" x=", left);
-    let at = put_attribute(line, at, b" y=", pen.y);
-    put_word(line, at, end)
-}
 
-// Starts the line with a region's name.
-pub fn start_name(pen: Pen, line: &mut [u8]) -> usize
-    ensures { result ≤ length line.new }
-{
-    start(pen, line, NAME_LEFT, b" font-weight=\"bold\">", b"")
-}
-
-// Starts a line with what is said of a region.
-pub fn start_words(pen: Pen, line: &mut [u8]) -> usize
-    ensures { result ≤ length line.new }
-{
-    start(pen, line, WORDS_LEFT, b">", b"   ")
-}
-
-// The pen a line further down.
-fn lower(pen: Pen) -> Pen {
-    Pen {
-        svg: pen.svg,
-        dry: pen.dry,
-        y: wrapping_add_usize(pen.y, LINE),
-        cuts: pen.cuts,
-        fine: pen.fine,
-        out: pen.out,
+    // Ends a line of words at height y, and goes a line further down.
+    fn end_words(&mut self, y: usize) -> fmt::Result {
+        self.form = Form::Svg {
+            y: y.wrapping_add(LINE),
+        };
+        writeln!(self.line, "</text>")?;
+        self.write()
     }
-}
 
-// The pen with one cut more said.
-pub fn with_cut(pen: Pen) -> Pen {
-    Pen {
-        svg: pen.svg,
-        dry: pen.dry,
-        y: pen.y,
-        cuts: wrapping_add_usize(pen.cuts, 1),
-        fine: pen.fine,
-        out: pen.out,
+    // Writes what is put, and clears the line. One that fills its room may have lost its end, so it counts as not written.
+    fn write(&mut self) -> fmt::Result {
+        let written = match self.out {
+            None => true,
+            Some(out) => !self.line.is_full() && out.write_all(self.line.said()).is_ok(),
+        };
+        self.line.clear();
+        if written { Ok(()) } else { Err(fmt::Error) }
     }
-}
-
-// Puts the end of a line of words.
-fn put_end(pen: Pen, line: &mut [u8], at: usize) -> usize
-    requires { at ≤ length line.old }
-    ensures { result ≤ length line.new }
-{
-    if pen.svg {
-        return put_word(line, at, b"</text>\n");
-    }
-    put_byte(line, at, b'\n')
-}
-
-// Ends a line of words, and writes it.
-pub fn finish(pen: Pen, line: &mut [u8], at: usize) -> Pen
-    requires { at ≤ length line.old }
-{
-    let end = put_end(pen, line, at);
-    lower(write(pen, line, end))
 }
