@@ -1,5 +1,5 @@
 -- Where the blocks of a column stand: each ends on the chip, so its numbers are small. Assumes nothing.
-use Rattle.std.proofs.Common.{◌≡◌, ℕ, zero, suc, ◌+◌, ◌*◌, ◌/◌, ◌<◌, ◌≤◌, Bool, true, false, refl, ap, ◌∙◌, le-div_iff_mul-le, add-one, arith}
+use Rattle.std.proofs.Common.{◌≡◌, ℕ, zero, suc, ◌+◌, ◌*◌, ◌/◌, ◌<◌, ◌≤◌, Bool, refl, ap, ◌∙◌, le-div_iff_mul-le, add-one, arith}
 use Rattle.rules.specs.Search.{count}
 use Rattle.rules.specs.declared.Chip.{Chip}
 use Rattle.rules.specs.declared.Rectangle.{Rectangle}
@@ -59,10 +59,6 @@ covers_is c r b x j i =
     let e : c.first + j * c.high + c.high ≡ c.first + suc j * c.high = omega arith in rw (i.low, i.high, e)
 
 -- a count with one block more
-pub counted_most : (is : Bool) (n : ℕ) → counted is n ≤ n + 1
-counted_most true n = omega arith
-counted_most false n = omega arith
-
 counted_next : (j : ℕ) (f : ℕ → Bool) → counted (f j) (count j f) ≡ count (j + 1) f
 unfolding count
 counted_next j f = rw add-one
