@@ -1,31 +1,37 @@
--- A search from 0 up for the least number that passes: while none has passed, what is left of the search gives what all of it gives.
--- Assumes nothing.
-use mathlib.Core.Path.{◌≡◌, sym, ◌∙◌}
+-- The first byte that passes a test, or how many bytes there are, is the least number that passes. Assumes nothing.
+use mathlib.Core.Path.{◌≡◌, refl, ◌∙◌, ap}
 use mathlib.Core.Bool.{Bool, true, false}
-use Prim.Native.Nat.{ℕ, suc, ◌+◌, ◌-◌, ◌<◌}
+use mathlib.Core.List.{List, [], ◌∷◌}
+use Prim.Native.Nat.{ℕ, suc, ◌+◌, ◌≤◌, ◌<◌}
 use native.Mathlib.Omega.{arith}
 use native.Mathlib.Numerals.{add-one}
+use native.Mathlib.Nat.{zero-add, add-zero}
+use lib.ListN.{length, get_or, take}
+use Rattle.std.specs.Prelude.{Some, cond, position}
+use Rattle.std.specs.Option.{unwrap_or}
+use Rattle.std.specs.List.{position_from}
+use Rattle.std.proofs.lemmas.List.{get_or-take, length-take-le}
+use Rattle.std.proofs.lemmas.Iterator.Adapters.{position_from-zero}
 use Rattle.rules.specs.Search.{least}
 
--- the search has come to t
-pub record Seeking (f : ℕ → Bool) (n t : ℕ) : Type 0 where
-  pub left : least f (n - t) t ≡ least f n 0
-
-pub seek_starts : {f : ℕ → Bool} {n : ℕ} → Seeking f n 0
-seek_starts {n = n} = let e : n - 0 ≡ n = omega arith in record { left = rw e }
-
-module _ {f : ℕ → Bool} {n t : ℕ} (s : Seeking f n t) where
-  pub seek_ends : t ≡ n → n ≡ least f n 0
+module _ (test f : ℕ → Bool) where
+  found_from : (xs : List ℕ) (i n : ℕ) → n ≡ i + length xs → ((j : ℕ) → j < length xs → test (get_or xs j 0) ≡ f (i + j))
+      → unwrap_or (position_from test i xs) n ≡ least f (length xs) i
   unfolding least
-  seek_ends e = let a : n - t ≡ 0 = omega arith in sym e ∙ rw a at s.left
+  found_from [] i n e h = e ∙ add-zero i
+  found_from (x ∷ xs) i n e h =
+      rw (← rw add-zero at (h 0 (omega arith))) (go (test x) (found_from xs (i + 1) n (omega arith) (λ j l.
+      let q : i + 1 + j ≡ i + suc j = omega arith in rw q (h (suc j) (omega arith)))))
+    where
+      go : (b : Bool) → unwrap_or (position_from test (i + 1) xs) n ≡ least f (length xs) (i + 1)
+          → unwrap_or (cond b (Some i) (position_from test (i + 1) xs)) n ≡ elim b as (λ _. ℕ) [ true ↦ i | false ↦ least f (length xs) (suc i) ]
+      go true ih = refl
+      go false ih = ih ∙ ap (least f (length xs)) (add-one i)
 
-  module _ (h : t < n) where
-    step : least f (n - t) t ≡ elim (f t) as (λ _. ℕ) [ true ↦ t | false ↦ least f (n - suc t) (suc t) ]
-    unfolding least
-    step = let a : n - t ≡ suc (n - suc t) = omega arith in rw a
-
-    pub seek_on : f t ≡ false → Seeking f n (t + 1)
-    seek_on e = record { left = rw add-one (sym (rw e at step) ∙ s.left) }
-
-    pub seek_hit : f t ≡ true → t ≡ least f n 0
-    seek_hit e = sym (rw e at step) ∙ s.left
+  pub first_found : (xs : List ℕ) (n : ℕ) → n ≤ length xs → ((j : ℕ) → j < n → test (get_or xs j 0) ≡ f j)
+      → unwrap_or (position test (take n xs)) n ≡ least f n 0
+  first_found xs n h e =
+      let long = length-take-le n xs h in
+      ap (λ o. unwrap_or o n) (position_from-zero test (take n xs))
+      ∙ rw long at (found_from (take n xs) 0 n (omega (arith, long)) (λ j l.
+      ap test (get_or-take n xs j 0 (omega (arith, long))) ∙ rw zero-add (e j (omega (arith, long)))))

@@ -2,10 +2,10 @@
 // The right child of a cut is always the node just before it.
 #![tactic(auto)]
 
-ghost use Rattle.std.specs.Prelude.{◌≡◌, ◌+◌, ◌<◌, get_or};
+ghost use Rattle.std.specs.Prelude.{◌≡◌, ◌+◌, ◌<◌, get_or, position};
 ghost use Rattle.std.proofs.Math.Bool.{So};
-ghost use Rattle.rules.specs.Tree.{is_cut};
-ghost use Rattle.rules.specs.Design.{most_tokens, LawfulDesign};
+ghost use Rattle.rules.specs.Tree.{is_cut, is_module, token_of};
+ghost use Rattle.rules.specs.Design.{most_modules, most_tokens, LawfulDesign};
 ghost use Rattle.rules.specs.Edit.{module_position};
 ghost use Rattle.trees.specs.Positions.{LeftChildren, WayUp, mark_of};
 
@@ -13,6 +13,8 @@ use rules::{Design, MOST_TOKENS, Token};
 use tokens::{is_cut, is_module, token_of};
 
 // Where the last thing but one stands before each token: for a cut, its left child.
+// stays: (a) no heap: the tree is 01's positions in arrays, here and below, and t is a position at whose earlier places two arrays are read.
+#[tactic(auto, using(rules::proofs::Limits::limits))]
 pub fn left_children(design: Design) -> [u8; MOST_TOKENS]
     requires { LawfulDesign design }
     ensures { LeftChildren design result }
@@ -30,18 +32,23 @@ pub fn left_children(design: Design) -> [u8; MOST_TOKENS]
     lefts
 }
 
+// The position of the first token that is module k's.
+fn first_of(tokens: &[u8], k: usize) -> Option<usize>
+    ensures { result ≡ position (λ v. is_module k (token_of most_modules v)) tokens.now }
+{
+    tokens
+        .iter()
+        .position(|token| is_module(token_of(*token), k))
+}
+
 // The position of module k's token.
+#[tactic(auto, using(rules::proofs::Limits::limits))]
 pub fn position_of(design: Design, k: usize) -> usize
     requires { LawfulDesign design × (k < design.modules) }
     ensures { result ≡ module_position design k }
 {
     let nodes = 2 * design.modules - 1;
-    for t in 0..nodes {
-        if is_module(token_of(design.tokens[t]), k) {
-            return t;
-        }
-    }
-    nodes
+    first_of(&design.tokens[..nodes], k).unwrap_or(nodes)
 }
 
 // Whether node t is the one at a position, or a cut above it: a cut is, if one of its children is.
@@ -56,25 +63,19 @@ fn mark_of(
     requires { (t < most_tokens) × (So (is_cut token) → get_or lefts t 0 + 1 < t) }
     ensures { result ≡ mark_of token lefts marks t at }
 {
-    if at == t {
-        return true;
-    }
-    if is_cut(token) {
-        let left = lefts[t] as usize;
-        return marks[left] || marks[t - 1];
-    }
-    false
+    at == t || (is_cut(token) && (marks[lefts[t] as usize] || marks[t - 1]))
 }
 
 // Marks the nodes on the way from a position up to the root.
+#[tactic(auto, using(rules::proofs::Limits::limits))]
 pub fn way_up(design: Design, lefts: [u8; MOST_TOKENS], at: usize) -> [bool; MOST_TOKENS]
     requires { LawfulDesign design × LeftChildren design lefts }
     ensures { WayUp design at result }
 {
     let nodes = 2 * design.modules - 1;
     let mut marks = [false; MOST_TOKENS];
-    for t in 0..nodes {
-        let mark = mark_of(token_of(design.tokens[t]), lefts, marks, t, at);
+    for (t, token) in design.tokens[..nodes].iter().enumerate() {
+        let mark = mark_of(token_of(*token), lefts, marks, t, at);
         marks[t] = mark;
     }
     marks

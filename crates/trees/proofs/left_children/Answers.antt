@@ -6,7 +6,6 @@ use native.Mathlib.Omega.{arith}
 use lib.ListN.{get_or}
 use Rattle.rules.specs.Tree.{is_cut}
 use Rattle.rules.specs.Design.{token_at}
-use Rattle.rules.proofs.Limits.{limits}
 use Rattle.trees.proofs.Arrays.{one_more}
 use Rattle.trees.proofs.Lefts.{none_found, all_found, module_found, left_found, cut_found}
 use mathlib.Core.Bool.{true}
@@ -21,12 +20,6 @@ asked c = sym (c.is_cut.ensures ∙ ap is_cut c.token_of.ensures)
 -- the left child of a cut just read is an earlier node
 left : (c : After-is_cut) → c.is_cut.result ≡ true → get_or c.loop-t.lefts (c.loop-t.t - 1) 0 + 1 < c.loop-t.t - 1
 left c e = left_found _ c.requires c.loop-t.invariant.1 c.loop-t.invariant.0 (omega arith) (asked c ∙ e)
-
-pub overflow_mul-nodes : goal.overflow_mul-nodes
-overflow_mul-nodes c = omega (arith, (limits _ c.requires).modules)
-
-pub overflow_sub-nodes : goal.overflow_sub-nodes
-overflow_sub-nodes c = omega (arith, (limits _ c.requires).some)
 
 pub loop-t-init : goal.loop-t-init
 loop-t-init c = (omega arith, none_found _ c.requires)

@@ -4,4 +4,4 @@ use Rattle.trees.proofs.Ways.{Marked}
 use Rattle.trees.proofs.way_up.Given as goal
 
 abbrev pub invariant-loop-t : goal.invariant-loop-t
-invariant-loop-t l = Marked l.design l.at l.t l.marks
+invariant-loop-t l = Marked l.fn.design l.at l.t l.marks
