@@ -17,21 +17,21 @@ use slots::{Board, slot_start};
 
 // A leaf, as it is listed: on a board of its chip's size, by what its module needs, in the slots of node t.
 #[derive(Clone, Copy)]
-struct Leaf<'a> {
+struct Leaf {
     board: Board,
-    chip: &'a Chip,
+    chip: Chip,
     need: Need,
     t: usize,
-    ghost lawful: { So (lawful_chip chip.now) },
-    ghost width: { board.width ≡ chip.now.width },
-    ghost height: { board.height ≡ chip.now.height },
+    ghost lawful: { So (lawful_chip chip) },
+    ghost width: { board.width ≡ chip.width },
+    ghost height: { board.height ≡ chip.height },
 }
 
-impl Leaf<'_> {
+impl Leaf {
     // Steps down while the room still suits, and keeps the last height that suited. None is left once the rows are used up.
     fn step_down(&self, height: &mut u8, from: Room) -> Option<Room>
-        requires { Steppable self.now.chip.now.block.0 from }
-        ensures { Stepped self.now.need self.now.chip.now.block.0 from height.old height.new result }
+        requires { Steppable self.now.chip.block.0 from }
+        ensures { Stepped self.now.need self.now.chip.block.0 from height.old height.new result }
     {
         let mut room = from;
         while is_at_most(self.need, room.held) {
@@ -47,10 +47,10 @@ impl Leaf<'_> {
     // The walk along the stair, in a slot that is cleared: from one column at full height it steps down while the room
     // still suits, and otherwise adds a column, until columns or rows are used up.
     fn walk(&self, slot: &mut [u8], at: Corner)
-        requires { WalkReady self.now.chip.now at slot.old }
-        ensures { Listed self.now.chip.now self.now.need at slot.old slot.new }
+        requires { WalkReady self.now.chip at slot.old }
+        ensures { Listed self.now.chip self.now.need at slot.old slot.new }
     {
-        let mut room = Room::no_columns(self.chip, at.y);
+        let mut room = Room::no_columns(&self.chip, at.y);
         let kinds = &self.chip.kinds[..];
         for (j, kind) in kinds[at.x.0..self.chip.width.0].iter().enumerate() {
             let Some(left) = self.step_down(&mut slot[j], room.wider(*kind)) else {
@@ -63,7 +63,7 @@ impl Leaf<'_> {
     // Lists the shapes at a corner, in the node's slot there.
     fn list_slot(&self, work: &mut [u8], at: Corner)
         requires { SlotReady self.now.board self.now.t at work.old }
-        ensures { SlotOn self.now.board self.now.t at (leaf_bytes self.now.chip.now self.now.need at) work.old work.new }
+        ensures { SlotOn self.now.board self.now.t at (leaf_bytes self.now.chip self.now.need at) work.old work.new }
     {
         let start = slot_start(self.board, self.t, at);
         let slot = &mut work[start..start + self.board.width.0];
@@ -74,7 +74,7 @@ impl Leaf<'_> {
     // Lists the corners in one row.
     fn list_row(&self, work: &mut [u8], y: Rows)
         requires { Lent self.now.board (suc self.now.t) work.old × (y.0 < self.now.board.listed.0) }
-        ensures { RowListed self.now.board self.now.chip.now self.now.need self.now.t y.0 work.old work.new }
+        ensures { RowListed self.now.board self.now.chip self.now.need self.now.t y.0 work.old work.new }
     {
         for x in 0..self.board.width.0 {
             self.list_slot(work, Corner { x: Columns(x), y });
@@ -89,7 +89,7 @@ pub fn leaf_node(work: &mut [u8], board: Board, chip: Chip, need: Need, t: usize
 {
     let leaf = Leaf {
         board,
-        chip: &chip,
+        chip,
         need,
         t,
     };

@@ -5,4 +5,4 @@ use Rattle.leaves.specs.Leaf.{leaf_bytes}
 use Rattle.leaves.proofs.Leaf.list_row.Given as goal
 
 abbrev pub invariant-loop-x : goal.invariant-loop-x
-invariant-loop-x l = PartOn l.self.board l.self.t (leaf_bytes l.self.chip.now l.self.need) (in_row l.y.0 l.x) l.initial.work l.work
+invariant-loop-x l = PartOn l.self.board l.self.t (leaf_bytes l.self.chip l.self.need) (in_row l.y.0 l.x) l.initial.work l.work

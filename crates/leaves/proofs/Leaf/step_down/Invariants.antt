@@ -5,7 +5,7 @@ use Rattle.leaves.proofs.Descending.{Steps}
 use Rattle.leaves.proofs.Leaf.step_down.Given as goal
 
 abbrev pub invariant-loop-height : goal.invariant-loop-height
-invariant-loop-height l = (0 < l.room.rows.0) × Steps l.self.need l.self.chip.now.block.0 l.initial.room l.initial.height l.room l.height
+invariant-loop-height l = (0 < l.room.rows.0) × Steps l.self.need l.self.chip.block.0 l.initial.room l.initial.height l.room l.height
 
 abbrev pub decreases-loop-height : goal.decreases-loop-height
 decreases-loop-height l = l.room.rows.0

@@ -13,14 +13,14 @@ use Rattle.leaves.proofs.Leaf.walk.Goals as goal
 use Rattle.leaves.proofs.Leaf.walk.Goals.{In-loop-j}
 
 -- the column come to is one of the chip's, and its kind is the one read
-on_chip : (c : In-loop-j) → c.args.at.x.0 + c.loop-j.j < c.args.self.now.chip.now.width.0
+on_chip : (c : In-loop-j) → c.args.at.x.0 + c.loop-j.j < c.args.self.now.chip.width.0
 on_chip c =
-    let C = c.args.self.now.chip.now in
+    let C = c.args.self.now.chip in
     omega (arith, c.loop-j-test.true, length-between C.kinds c.args.at.x.0 C.width.0 (omega (arith, chip_limits _ c.args.self.now.lawful)))
 
-kind_read : (c : In-loop-j) → let C = c.args.self.now.chip.now in
+kind_read : (c : In-loop-j) → let C = c.args.self.now.chip in
     get_or (between c.args.at.x.0 C.width.0 C.kinds) c.loop-j.j 0 ≡ kind_at C (c.args.at.x.0 + c.loop-j.j)
-kind_read c = let C = c.args.self.now.chip.now in get_or-between C.kinds c.args.at.x.0 C.width.0 c.loop-j.j 0 (on_chip c)
+kind_read c = let C = c.args.self.now.chip in get_or-between C.kinds c.args.at.x.0 C.width.0 c.loop-j.j 0 (on_chip c)
 
 pub no_columns-room-requires : goal.no_columns-room-requires
 no_columns-room-requires c =
@@ -54,6 +54,6 @@ loop-j-preserved c =
 
 pub returns : goal.returns
 returns c =
-    let C = c.args.self.now.chip.now in let on = c.requires.corner in
+    let C = c.args.self.now.chip in let on = c.requires.corner in
     let long = length-between C.kinds c.args.at.x.0 C.width.0 (omega (arith, chip_limits _ c.args.self.now.lawful)) in
     walks_out c.args.self.now.lawful c.loop-j.invariant (omega (arith, c.loop-j-test.false, long))

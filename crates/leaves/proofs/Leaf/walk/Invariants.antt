@@ -4,4 +4,4 @@ use Rattle.leaves.proofs.Widths.{Walks}
 use Rattle.leaves.proofs.Leaf.walk.Given as goal
 
 abbrev pub invariant-loop-j : goal.invariant-loop-j
-invariant-loop-j l = Walks l.self.chip.now l.self.need l.fn.at l.initial.slot l.j l.room l.slot
+invariant-loop-j l = Walks l.self.chip l.self.need l.fn.at l.initial.slot l.j l.room l.slot
