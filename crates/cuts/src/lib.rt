@@ -75,8 +75,8 @@ pub struct Cut {
     pub right: usize,
 }
 
-// stays: each of the five is a match on the direction, since 01 lets no row count stand for a column count; one function
-// over a pair of numbers would lose that.
+// stays: each of the five is a match on the direction: over a pair of numbers, one for both would let a row count stand
+// for a column count, which 01's language form forbids.
 impl Cut {
     // How many places a line has.
     fn places(self) -> Place

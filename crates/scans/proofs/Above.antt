@@ -7,19 +7,18 @@ use Prim.Native.Nat.{ℕ, ◌+◌, ◌-◌, ◌≤◌, ◌<◌, max}
 use native.Mathlib.Omega.{arith}
 use native.Mathlib.Decide.{dec_le, dec_lt, ℕ_discrete}
 use lib.ListN.{length, set}
-use Rattle.slots.specs.Lent.{bytes_from}
 use Rattle.scans.specs.Run.{UpToLast, Falls, Widest, WidestKept, Lower, WalkedUp, KeptAbove, AboveKept}
-use Rattle.scans.proofs.Runs.{nothing_put, same_put, other_values, one_put, First, Second, then_put, put_reads}
+use Rattle.scans.proofs.Runs.{nothing_put, same_put, other_values, one_put, First, Second, then_put}
 
 -- walking up: one byte more, kept or passed over
-module _ {f : ℕ → ℕ} {a height low : ℕ} (to : ℕ) {before : List ℕ} where
-  pub none_up : WalkedUp f a a height low to before before low
+module _ {f : ℕ → ℕ} {a height low : ℕ} {before : List ℕ} where
+  pub none_up : WalkedUp f a a height low before before low
   none_up = record {
     put = nothing_put (λ k z. omega (arith, z.from, z.before));
     last_of = inl (refl, λ k z. omega (arith, z.from, z.before));
   }
 
-  module _ {k last : ℕ} {mid : List ℕ} (w : WalkedUp f a k height low to before mid last) where
+  module _ {k last : ℕ} {mid : List ℕ} (w : WalkedUp f a k height low before mid last) where
     more : (i : ℕ) → Lower f a k height low i → Lower f a (k + 1) height low i
     more i z = let u = z.before in record { from = z.from; before = omega arith; shape = z.shape; lower = z.lower }
 
@@ -30,14 +29,14 @@ module _ {f : ℕ → ℕ} {a height low : ℕ} (to : ℕ) {before : List ℕ} w
         go (yes e) = inr e
         go (no e) = let u = z.before in inl (record { from = z.from; before = omega arith; shape = z.shape; lower = z.lower })
 
-    pub one_up : {v : ℕ} → a ≤ k → 1 ≤ f k → height + f k < low → to + k < length mid → v ≡ height + f k → WalkedUp f a (k + 1) height low to before (set mid (to + k) v) v
+    pub one_up : {v : ℕ} → a ≤ k → 1 ≤ f k → height + f k < low → k < length mid → v ≡ height + f k → WalkedUp f a (k + 1) height low before (set mid k v) v
     one_up {v} h s l q e =
         let new : Lower f a (k + 1) height low k = record { from = h; before = omega arith; shape = s; lower = l } in record {
           put = one_put w.put k v new more fewer (λ i z p. omega (arith, z.before)) q e;
           last_of = inr (k, new, e, λ i z. omega (arith, z.before));
         }
 
-    pub past_up : (Lower f a (k + 1) height low k → ⊥) → WalkedUp f a (k + 1) height low to before mid last
+    pub past_up : (Lower f a (k + 1) height low k → ⊥) → WalkedUp f a (k + 1) height low before mid last
     past_up o = record {
       put = same_put w.put (λ i. (more i, only i));
       last_of = ⊎_elim (λ (e, n). inl (e, λ i z. n i (only i z))) (λ (i, z, e, n). inr (i, more i z, e, λ j y. n j (only j y))) w.last_of;
@@ -57,7 +56,7 @@ module _ {f : ℕ → ℕ} {i height low n : ℕ} (u : UpToLast f (i + 1) n) whe
       go (no p) (no q) = omega arith
 
   -- none to keep: no shape, or one too high
-  pub no_widest : {to : ℕ} {before : List ℕ} → (1 ≤ n → low ≤ height + f (n - 1)) → WidestKept f i height low to before before low
+  pub no_widest : {before : List ℕ} → (1 ≤ n → low ≤ height + f (n - 1)) → WidestKept f i height low before before low
   no_widest h = record { put = nothing_put none; last_of = inl (refl, none) }
     where
       none : (k : ℕ) → Widest f i height low k → ⊥
@@ -67,9 +66,9 @@ module _ {f : ℕ → ℕ} {i height low n : ℕ} (u : UpToLast f (i + 1) n) whe
           go (yes p) = let e = ap f (only_widest k z) in let l = z.lower in omega (arith, h p)
           go (no p) = let w = z.within in omega (arith, u.none k (omega arith) (omega arith), z.shape)
 
-  pub one_widest : {v : ℕ} (to : ℕ) {before : List ℕ} → 1 ≤ n → v ≡ height + f (n - 1) → v < low → to + i < length before → WidestKept f i height low to before (set before (to + i) v) v
-  one_widest {v} to h e l q = record {
-    put = one_put (nothing_put {Kept = λ _. ⊥} {place = λ _. to + i} {value = λ k. height + f k} (λ k z. z)) (n - 1) v here (λ j z. absurd z) (λ j z. inr (only_widest j z))
+  pub one_widest : {v : ℕ} {before : List ℕ} → 1 ≤ n → v ≡ height + f (n - 1) → v < low → i < length before → WidestKept f i height low before (set before i v) v
+  one_widest {v} h e l q = record {
+    put = one_put (nothing_put {Kept = λ _. ⊥} {place = λ _. i} {value = λ k. height + f k} (λ k z. z)) (n - 1) v here (λ j z. absurd z) (λ j z. inr (only_widest j z))
         (λ j z. absurd z) q e;
     last_of = inr (n - 1, here, e);
   }
@@ -78,12 +77,12 @@ module _ {f : ℕ → ℕ} {i height low n : ℕ} (u : UpToLast f (i + 1) n) whe
       here = let w = u.within in record { within = omega arith; shape = u.holds h; none = λ j p r. u.none j (omega arith) (omega arith); lower = omega arith }
 
 -- the last kept is no higher than before
-pub widest_low : {f : ℕ → ℕ} {i height low to last : ℕ} {before after : List ℕ} → WidestKept f i height low to before after last → last ≤ low
+pub widest_low : {f : ℕ → ℕ} {i height low last : ℕ} {before after : List ℕ} → WidestKept f i height low before after last → last ≤ low
 widest_low p = ⊎_elim (λ (e, _). omega arith) (λ (k, z, e). omega (arith, z.lower)) p.last_of
 
 -- what both loops put is what is to be kept
-module _ {f : ℕ → ℕ} {i next height low to mid-low r : ℕ} {before mid after : List ℕ} (wider : i < next) (falls : Falls f next)
-    (p : WidestKept f i height low to before mid mid-low) (w : WalkedUp f (i + 1) next height mid-low to mid after r) where
+module _ {f : ℕ → ℕ} {i next height low mid-low r : ℕ} {before mid after : List ℕ} (wider : i < next) (falls : Falls f next)
+    (p : WidestKept f i height low before mid mid-low) (w : WalkedUp f (i + 1) next height mid-low mid after r) where
   widest_kept : (k : ℕ) → Widest f i height low k → KeptAbove f i next height low k
   widest_kept k z = let u = z.within in record {
     before = omega arith;
@@ -120,7 +119,7 @@ module _ {f : ℕ → ℕ} {i next height low to mid-low r : ℕ} {before mid af
         (λ (j, y, e). let v = y.within in omega (arith, falls j k (omega arith) z.before y.shape z.shape)) p.last_of;
   }
 
-  pub above_kept : AboveKept f i next height low to before after r
+  pub above_kept : AboveKept f i next height low before after r
   above_kept = record {
     put = then_put p.put w.put (λ k z. let u = z.within in (widest_kept k z, omega arith)) (λ k z. let u = z.from in (walk_kept k z, omega arith)) (λ k z. here k z (dec_le k i));
     within = ⊎_elim (λ (e, _). let l = widest_low p in omega arith) (λ (k, z, e, _). let l = widest_low p in omega (arith, z.lower)) w.last_of;
@@ -129,7 +128,7 @@ module _ {f : ℕ → ℕ} {i next height low to mid-low r : ℕ} {before mid af
   }
     where
       here : (k : ℕ) → KeptAbove f i next height low k → Dec (k ≤ i)
-          → First p.put w.put k (to + max i k) (height + f k) ⊎ Second p.put w.put k (to + max i k) (height + f k)
+          → First p.put w.put k (max i k) (height + f k) ⊎ Second p.put w.put k (max i k) (height + f k)
       here k z (yes h) = inl (kept_widest k h z, omega arith, refl, λ (j, y, q). omega (arith, y.from))
       here k z (no h) = inr (kept_walk k (omega arith) z, omega arith, refl)
 
@@ -152,27 +151,6 @@ module _ {f : ℕ → ℕ} {i next height low to mid-low r : ℕ} {before mid af
           go (yes q) = let q' = ap f q in omega arith
           go (no q) = let v = m k (kept_walk k (omega arith) z) in omega (arith, falls k j (omega arith) y.before z.shape y.shape)
 
--- the walk reads the bytes as they stood before the widest was put
-pub kept_above : (from : ℕ) {i next height low to mid-low r : ℕ} {before mid after : List ℕ} → i < next → from + next ≤ to → Falls (bytes_from before from) next
-    → WidestKept (bytes_from before from) i height low to before mid mid-low → WalkedUp (bytes_from mid from) (i + 1) next height mid-low to mid after r
-    → AboveKept (bytes_from before from) i next height low to before after r
-kept_above from {i} {next} {height} {low} {to} {mid-low} {r} {before} {mid} {after} h l falls p w = above_kept h falls p (record {
-  put = other_values (same_put w.put (λ k. (back k, there k))) (λ k z. ap (λ n. height + n) (same k z.before));
-  last_of = ⊎_elim (λ (e, n). inl (e, λ k z. n k (there k z)))
-      (λ (k, z, e, n). inr (k, back k z, e ∙ ap (λ n. height + n) (same k z.before), λ j y. n j (there j y))) w.last_of;
-})
-  where
-    same : (k : ℕ) → k < next → bytes_from mid from k ≡ bytes_from before from k
-    same k q = put_reads p.put (from + k) (λ j z. omega arith)
-
-    back : (k : ℕ) → Lower (bytes_from mid from) (i + 1) next height mid-low k → Lower (bytes_from before from) (i + 1) next height mid-low k
-    back k z = let e = same k z.before in
-        record { from = z.from; before = z.before; shape = omega (arith, z.shape); lower = omega (arith, z.lower) }
-
-    there : (k : ℕ) → Lower (bytes_from before from) (i + 1) next height mid-low k → Lower (bytes_from mid from) (i + 1) next height mid-low k
-    there k z = let e = same k z.before in
-        record { from = z.from; before = z.before; shape = omega (arith, z.shape); lower = omega (arith, z.lower) }
-
 -- what is kept hangs on the run's bytes alone
 module _ {i next height low : ℕ} (wider : i < next) where
   same_kept : {f g : ℕ → ℕ} → ((k : ℕ) → k < next → f k ≡ g k) → (k : ℕ) → KeptAbove f i next height low k → KeptAbove g i next height low k
@@ -183,8 +161,8 @@ module _ {i next height low : ℕ} (wider : i < next) where
     lower = omega (arith, z.lower, e k b);
   }
 
-  pub above_same : {f g : ℕ → ℕ} {to r : ℕ} {before after : List ℕ} → ((k : ℕ) → k < next → f k ≡ g k)
-      → AboveKept f i next height low to before after r → AboveKept g i next height low to before after r
+  pub above_same : {f g : ℕ → ℕ} {r : ℕ} {before after : List ℕ} → ((k : ℕ) → k < next → f k ≡ g k)
+      → AboveKept f i next height low before after r → AboveKept g i next height low before after r
   above_same e z = let there = same_kept e in let back = same_kept (λ k h. sym (e k h)) in record {
     put = other_values (same_put z.put (λ k. (there k, back k))) (λ k y. ap (λ n. height + n) (e k y.before));
     within = z.within;

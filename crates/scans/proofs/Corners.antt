@@ -1,100 +1,62 @@
--- Slots at corners: a child's slot stands before its cut's, so writing this leaves that as it is. Assumes nothing.
-use mathlib.Core.Path.{◌≡◌, refl, sym, ◌∙◌, ap, subst}
-use mathlib.Core.Logic.{inl, ⊎_elim}
+-- Slots at corners: a child's slots stand in the bytes before its cut's. Assumes nothing.
+use mathlib.Core.Path.{◌≡◌, ◌∙◌}
 use mathlib.Core.List.{List}
 use Prim.Native.Nat.{ℕ, suc, ◌+◌, ◌-◌, ◌≤◌, ◌<◌}
 use native.Mathlib.Omega.{arith}
-use native.Mathlib.Nat.{le_refl}
-use lib.ListN.{length}
+use lib.ListN.{length, take, drop}
+use Rattle.std.proofs.lemmas.List.{places}
 use Rattle.rules.specs.declared.Corner.{Corner}
 use Rattle.rules.specs.Slot.{slot}
 use Rattle.rules.specs.Chip.{corner}
-use Rattle.rules.proofs.Working.{slot_within, work_rises}
 use Rattle.slots.specs.declared.Board.{Board}
-use Rattle.slots.specs.Lent.{OnBoard, start_on, slots_on, bytes_from}
+use Rattle.slots.specs.Lent.{OnBoard, start_on, slots_on, Lent}
+use Rattle.slots.proofs.Lending.{fewer_lent}
 use Rattle.cuts.specs.declared.Cut.{Cut}
-use Rattle.slots.proofs.Writing.{node_from}
-use Rattle.slots.proofs.Lending.{lent_same, on_listed, slot_lent, slot_bytes}
-use Rattle.scans.specs.Run.{Put, Falls, BesideKept, AboveKept}
-use Rattle.scans.specs.Scan.{Reads, ScannedBeside, ScannedAbove, SlotAlone}
+use Rattle.scans.specs.Run.{bytes, UpToLast, stop_at, FirstAfter, Falls, BesideKept, AboveKept}
+use Rattle.scans.specs.Scan.{Reads, SlotPart, ScannedBeside, ScannedAbove}
+use Rattle.scans.proofs.Runs.{up_same, stop_same, first_same, up_taken, stop_taken}
+use Rattle.scans.proofs.Beside.{beside_same}
+use Rattle.scans.proofs.Above.{above_same}
 
-module _ {B : Board} {t child : ℕ} {c : Corner} {to : ℕ} {work : List ℕ} (r : Reads B t child c to work) where
-  -- the child's slot at any corner ends before the cut's begins, which lies within the bytes lent
-  pub child_before : {c' : Corner} → OnBoard B c' → start_on B child c' + B.width.0 ≤ to
-  child_before {c'} on =
-      let W = B.width.0 in let R = B.listed.0 in let o = on_listed r.lent on in let x = on.column in let e = r.place in let b = r.before in
-      omega (arith, slot_within W R (suc child) child (W - 1) c' (omega arith) o (omega arith), work_rises {R = R} {W = W} b (le_refl R) (le_refl W), node_from W R t 0 c)
+-- some of a slot's bytes, from where it starts
+pub slot_part : {B : Board} {child n from : ℕ} {c : Corner} {children : List ℕ} → from ≡ start_on B child c → start_on B child c + B.width.0 ≤ length children → n ≤ B.width.0
+    → SlotPart B child c n children (take (from + n - from) (drop from children))
+unfolding slot
+slot_part e l h = record { long = search (arith, places); at = λ j q. rw (← e) (search (arith, places)) }
 
-  pub slot_ends : to + B.width.0 ≤ length work
-  slot_ends = omega (arith, r.place, slot_lent r.lent t (omega arith) (on_listed r.lent r.corner))
+-- what the loops find there they find in the child's slot
+module _ {B : Board} {child n : ℕ} {c : Corner} {children part : List ℕ} (p : SlotPart B child c n children part) where
+  pub part_up : {r : ℕ} → UpToLast (bytes part) (length part) r → UpToLast (slots_on B children child c) n r
+  part_up u = up_same p.at (rw p.long at u)
 
-  -- and so does the child's slot there
-  pub child_lent : {c' : Corner} {from : ℕ} → OnBoard B c' → from ≡ start_on B child c' → from + B.width.0 ≤ length work
-  child_lent on e = omega (arith, e, child_before on, slot_ends)
+  pub part_first : {a r : ℕ} → FirstAfter (bytes part) a (length part) r → FirstAfter (slots_on B children child c) a n r
+  part_first u = first_same p.at (rw p.long at u)
 
-  -- a child's slot falls
-  pub child_falls : {c' : Corner} {from n : ℕ} → OnBoard B c' → from ≡ start_on B child c' → n ≤ B.width.0 → Falls (bytes_from work from) n
-  child_falls {c'} {n = n} on e h = subst (λ f. Falls f n) (sym (slot_bytes B child c' work e)) (λ i j p q u v. (r.stairs c' on).fall i j p (omega arith) u v)
+  module _ (m : ℕ) (h : m ≤ n) where
+    pub taken_up : {r : ℕ} → UpToLast (bytes (take m part)) (length (take m part)) r → UpToLast (slots_on B children child c) m r
+    taken_up u = up_same (λ k q. p.at k (omega arith)) (up_taken part (omega (arith, p.long)) u)
 
--- the corner beside a left shape
-pub beside_on : {B : Board} {t child : ℕ} {c : Corner} {to : ℕ} (wide : ℕ) {work : List ℕ} → Reads B t child c to work → c.x.0 + wide < B.width.0 → OnBoard B (corner (c.x.0 + wide) c.y.0)
-beside_on wide r h = record { column = h; row = r.corner.row }
+    pub taken_stop : stop_at (bytes (take m part)) (length (take m part)) ≡ stop_at (slots_on B children child c) m
+    taken_stop = stop_taken part (omega (arith, p.long)) ∙ stop_same (λ k q. p.at k (omega arith))
 
-pub kept_in_slot : {cut : Cut} {to wide height stop last : ℕ} {c : Corner} {before after : List ℕ} {k from : ℕ} → c.x.0 + wide < cut.board.width.0
-    → from ≡ start_on cut.board cut.right (corner (c.x.0 + wide) c.y.0)
-    → BesideKept (bytes_from before from) (last - 1 - wide) height stop (to + wide) before after k
-    → ScannedBeside cut c to wide height stop last before after (wide + 1 + k)
-kept_in_slot {cut} {to} {wide} {height} {stop} {last} {c} {before} {after} {k} h e z = record {
-  off = λ p. absurd (omega arith);
-  on = λ _. let q : k ≡ wide + 1 + k - 1 - wide = omega arith in (
-    omega arith,
-    subst (λ n. BesideKept (slots_on cut.board before cut.right (corner (c.x.0 + wide) c.y.0)) (last - 1 - wide) height stop (to + wide) before after n) q
-        (subst (λ f. BesideKept f (last - 1 - wide) height stop (to + wide) before after k) (slot_bytes cut.board cut.right (corner (c.x.0 + wide) c.y.0) before e) z),
-  );
-}
+module _ {B : Board} {t child : ℕ} {c : Corner} {children : List ℕ} (r : Reads B t child c children) where
+  -- the child's slots are among these bytes
+  pub child_lent : Lent B (suc child) children
+  child_lent = fewer_lent r.lent (suc child) r.before
 
--- and the corner above one
-pub above_on : {B : Board} {t child : ℕ} {c : Corner} {to : ℕ} (height : ℕ) {work : List ℕ} → Reads B t child c to work → c.y.0 + height < B.height.0 → OnBoard B (corner c.x.0 (c.y.0 + height))
-above_on height r h = record { column = r.corner.column; row = h }
+  -- and fall
+  pub child_falls : {c' : Corner} {n : ℕ} {part : List ℕ} → OnBoard B c' → SlotPart B child c' n children part → n ≤ B.width.0 → Falls (bytes part) (length part)
+  child_falls on p h i j k q u v = let l = p.long in let a = p.at i (omega arith) in let b = p.at j (omega arith) in
+      omega (arith, (r.stairs _ on).fall i j k (omega arith) (omega arith) (omega arith))
 
-pub kept_up_slot : {cut : Cut} {to i next height low : ℕ} {c : Corner} {before after : List ℕ} {r from : ℕ} → c.y.0 + height < cut.board.height.0
-    → from ≡ start_on cut.board cut.right (corner c.x.0 (c.y.0 + height))
-    → AboveKept (bytes_from before from) i next height low to before after r → ScannedAbove cut c to i next height low before after r
-kept_up_slot {cut} {to} {i} {next} {height} {low} {c} {before} {after} {r} h e z = record {
-  off = λ p. absurd (omega arith);
-  on = λ _. subst (λ f. AboveKept f i next height low to before after r) (slot_bytes cut.board cut.right (corner c.x.0 (c.y.0 + height)) before e) z;
-}
+-- what is kept at the corner beside a left shape
+pub kept_in_slot : {cut : Cut} {c : Corner} {wide last height stop r : ℕ} {children part before after : List ℕ} (k : ℕ) → c.x.0 + wide < cut.board.width.0
+    → SlotPart cut.board cut.right (corner (c.x.0 + wide) c.y.0) (last - 1 - wide) children part
+    → wide < r → k ≡ r - 1 - wide → BesideKept (bytes part) (length part) height stop wide before after k → ScannedBeside cut c wide height stop last children before after r
+kept_in_slot k inside p w e z = record { off = λ h. absurd (omega arith); on = λ _. (w, beside_same p.at (rw (p.long, e) at z)) }
 
--- only one slot changes
-pub alone_none : {B : Board} {t : ℕ} {c : Corner} {work : List ℕ} → SlotAlone B t c work work
-alone_none = record { long = refl; outside = λ i h. refl }
-
-pub alone_put : {B : Board} {t : ℕ} {c : Corner} {start before after : List ℕ} {Kept : ℕ → Type 0} {place value : ℕ → ℕ}
-    → SlotAlone B t c start before → Put Kept place value before after
-    → ((k : ℕ) → Kept k → (start_on B t c ≤ place k) × (place k < start_on B t c + B.width.0)) → SlotAlone B t c start after
-alone_put a p within = record {
-  long = p.long ∙ a.long;
-  outside = λ i h. p.others i (λ (k, z, e). let (u, v) = within k z in ⊎_elim (λ l. omega arith) (λ l. omega arith) h) ∙ a.outside i h;
-}
-
--- so a child's slots stay as they were, and go on to be stairs
-module _ {B : Board} {t child : ℕ} {c : Corner} {to : ℕ} {start work : List ℕ} (r : Reads B t child c to start) (a : SlotAlone B t c start work) where
-  pub child_kept : {c' : Corner} → OnBoard B c' → (j : ℕ) → j < B.width.0 → slots_on B work child c' j ≡ slots_on B start child c' j
-  unfolding slot
-  child_kept {c'} on j h = a.outside (start_on B child c' + j) (inl (omega (arith, child_before r on, r.place)))
-
-  pub child_read : {c' : Corner} {from : ℕ} → OnBoard B c' → from ≡ start_on B child c' → (j : ℕ) → j < B.width.0 → bytes_from work from j ≡ slots_on B start child c' j
-  child_read {c'} on e j h = ap (λ f. f j) (slot_bytes B child c' work e) ∙ child_kept on j h
-
-  pub reads_still : Reads B t child c to work
-  reads_still = record {
-    lent = lent_same r.lent a.long;
-    before = r.before;
-    corner = r.corner;
-    place = r.place;
-    stairs = λ c' on. let z = r.stairs c' on in record {
-      fall = λ i j h k p q. omega (arith, child_kept on i (omega arith), child_kept on j k, z.fall i j h k (omega (arith, child_kept on i (omega arith))) (omega (arith, child_kept on j k)));
-      rows = λ j h. omega (arith, child_kept on j h, z.rows j h);
-      columns = λ j h k. child_kept on j h ∙ z.columns j h k;
-    };
-  }
+-- and at the corner above one
+pub kept_up_slot : {cut : Cut} {c : Corner} {i next height low r : ℕ} {children part before after : List ℕ} → i < next → c.y.0 + height < cut.board.height.0
+    → SlotPart cut.board cut.right (corner c.x.0 (c.y.0 + height)) next children part
+    → AboveKept (bytes part) i (length part) height low before after r → ScannedAbove cut c i next height low children before after r
+kept_up_slot w inside p z = record { off = λ h. absurd (omega arith); on = λ _. above_same w p.at (rw p.long at z) }

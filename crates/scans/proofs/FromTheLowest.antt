@@ -1,10 +1,11 @@
 -- A vertical cut's left shapes, from the lowest up: one after the other is scanned, and its slot holds what the scan keeps up to the next one's height.
 -- Assumes nothing.
-use mathlib.Core.Path.{◌≡◌, sym, ◌∙◌, ap, subst}
+use mathlib.Core.Path.{◌≡◌, sym, ◌∙◌, ap}
 use mathlib.Core.List.{List}
 use Prim.Native.Nat.{ℕ, suc, ◌+◌, ◌-◌, ◌≤◌, ◌<◌}
 use native.Mathlib.Omega.{arith}
 use native.Mathlib.Decide.{dec_lt, ℕ_discrete}
+use lib.ListN.{length}
 use Rattle.rules.specs.declared.Corner.{Corner}
 use Rattle.rules.specs.declared.Shape.{Shape}
 use Rattle.rules.specs.declared.Direction.TheVariants.{Vertical}
@@ -13,14 +14,11 @@ use Rattle.rules.specs.Slot.{Stores, CornerOn, Stair}
 use Rattle.rules.proofs.Scanning.{StairsOf, sides, stair_falls}
 use Rattle.rules.proofs.Keeping.{KeptTo, StopsAt, keeping_begins, keeping_ends, no_corner}
 use Rattle.slots.specs.declared.Board.{Board}
-use Rattle.slots.specs.Lent.{slots_on, bytes_from}
+use Rattle.slots.specs.Lent.{slots_on}
 use Rattle.cuts.specs.declared.Cut.{Cut}
-use Rattle.slots.proofs.Lending.{slot_bytes}
-use Rattle.scans.specs.Run.{UpToLast, stop_at}
-use Rattle.scans.specs.Scan.{ScanReady, BesideReady, ScannedBeside, SlotAlone, CornerScanned}
+use Rattle.scans.specs.Run.{bytes, UpToLast, stop_at}
+use Rattle.scans.specs.Scan.{ScanReady, BesideReady, ScannedBeside, CornerScanned}
 use Rattle.scans.proofs.Runs.{stop_some, stop_none}
-use Rattle.scans.proofs.Beside.{beside_same}
-use Rattle.scans.proofs.Corners.{alone_none, alone_put, child_kept, reads_still}
 use Rattle.scans.proofs.Vertical.{beside_kept_to}
 
 -- A left shape that is among the first n bytes is among those up to the last, and no lower than that one.
@@ -45,27 +43,18 @@ module _ {W H : ℕ} {c : Corner} {f : ℕ → ℕ} (st : Stair W H c f) {n r : 
           omega (arith, e, x.byte, st.fall (s.w.0 - 1) (r - 1) (omega arith) (omega arith) (omega (arith, x.byte, x.high)) (u.holds (omega arith)))
 
 -- The scan before the left shape of a width, which is so high, or with none left: what it has kept of lower boxes stands in the slot.
-pub record LeftsTo (cut : Cut) (c : Corner) (start work : List ℕ) (wide height last : ℕ) : Type 0 where
-  pub alone : SlotAlone cut.board cut.t c start work
+pub record LeftsTo (cut : Cut) (c : Corner) (children slot : List ℕ) (wide height last : ℕ) : Type 0 where
+  pub long : length slot ≡ cut.board.width.0
   pub within : c.x.0 + wide ≤ cut.board.width.0
-  pub shape : 1 ≤ wide → 1 ≤ slots_on cut.board start cut.left c (wide - 1)
-  pub high : height ≡ stop_at (slots_on cut.board start cut.left c) wide
+  pub shape : 1 ≤ wide → 1 ≤ slots_on cut.board children cut.left c (wide - 1)
+  pub high : height ≡ stop_at (slots_on cut.board children cut.left c) wide
   pub room : wide < last
   pub narrow : last ≤ suc (cut.board.width.0 - c.x.0)
-  pub kept : KeptTo cut.board.width.0 cut.board.height.0 Vertical (slots_on cut.board start cut.left) (slots_on cut.board start cut.right) c height last (slots_on cut.board work cut.t c)
+  pub kept : KeptTo cut.board.width.0 cut.board.height.0 Vertical (slots_on cut.board children cut.left) (slots_on cut.board children cut.right) c height last (bytes slot)
 
-module _ {cut : Cut} {c : Corner} {to : ℕ} {start : List ℕ} (ready : ScanReady cut c to start) where
+module _ {cut : Cut} {c : Corner} {children empty : List ℕ} (ready : ScanReady cut c children empty) where
   abbrev B : Board
   B = cut.board
-
-  abbrev t : ℕ
-  t = cut.t
-
-  abbrev left : ℕ
-  left = cut.left
-
-  abbrev right : ℕ
-  right = cut.right
 
   abbrev W : ℕ
   W = B.width.0
@@ -74,10 +63,10 @@ module _ {cut : Cut} {c : Corner} {to : ℕ} {start : List ℕ} (ready : ScanRea
   H = B.height.0
 
   abbrev L : Corner → ℕ → ℕ
-  L = slots_on B start left
+  L = slots_on B children cut.left
 
   abbrev R : Corner → ℕ → ℕ
-  R = slots_on B start right
+  R = slots_on B children cut.right
 
   abbrev columns : ℕ
   columns = W - c.x.0
@@ -103,9 +92,9 @@ module _ {cut : Cut} {c : Corner} {to : ℕ} {start : List ℕ} (ready : ScanRea
       go (yes h) = let w = x.wide in let v = x.within in absurd (omega (arith, x.byte, x.high, st.columns (s.w.0 - 1) (omega arith) (omega arith)))
 
   -- at first nothing is kept, and no box is lower than the lowest left shape
-  pub lefts_begin : {wide height : ℕ} → UpToLast (L c) columns wide → height ≡ stop_at (L c) wide → LeftsTo cut c start start wide height (columns + 1)
+  pub lefts_begin : {wide height : ℕ} → UpToLast (L c) columns wide → height ≡ stop_at (L c) wide → LeftsTo cut c children empty wide height (columns + 1)
   lefts_begin {wide} {height} u e = let b = u.within in let x = ready.lefts.corner.column in record {
-    alone = alone_none;
+    long = ready.long;
     within = omega arith;
     shape = u.holds;
     high = e;
@@ -116,13 +105,10 @@ module _ {cut : Cut} {c : Corner} {to : ℕ} {start : List ℕ} (ready : ScanRea
         (λ q z. omega (arith, z.fits.columns));
   }
 
-  module _ {work : List ℕ} {wide height last : ℕ} (z : LeftsTo cut c start work wide height last) where
+  module _ {slot : List ℕ} {wide height last : ℕ} (z : LeftsTo cut c children slot wide height last) where
     -- at last every box is lower than the stop
-    pub lefts_end : wide ≡ 0 → CornerScanned Vertical cut c start work
-    lefts_end e = record {
-      alone = z.alone;
-      listed = keeping_ends z.kept (λ q b. let h : height ≡ 255 = z.high ∙ ap (stop_at (L c)) e ∙ stop_none (L c) in omega (arith, b.fits.rows, ready.lefts.lent.rows));
-    }
+    pub lefts_end : wide ≡ 0 → CornerScanned Vertical cut c children slot
+    lefts_end e = keeping_ends z.kept (λ q b. let h : height ≡ 255 = z.high ∙ ap (stop_at (L c)) e ∙ stop_none (L c) in omega (arith, b.fits.rows, ready.lefts.lent.rows))
 
     module _ (some : 1 ≤ wide) {next stop : ℕ} (u : UpToLast (L c) (wide - 1) next) (e : stop ≡ stop_at (L c) next) where
       its_height : height ≡ L c (wide - 1)
@@ -150,9 +136,10 @@ module _ {cut : Cut} {c : Corner} {to : ℕ} {start : List ℕ} (ready : ScanRea
           narrower : (s : Shape) → Stores W (L c) s → height < s.h.0 → s.w.0 ≤ wide - 1
           narrower s x h = let f = stair_falls st Vertical stored x h in omega arith
 
-      pub beside_ready : BesideReady cut c to wide height stop last work
+      pub beside_ready : BesideReady cut c wide height stop last children slot
       beside_ready = record {
-        reads = reads_still ready.rights z.alone;
+        reads = ready.rights;
+        long = z.long;
         some = some;
         within = z.within;
         room = z.room;
@@ -161,17 +148,15 @@ module _ {cut : Cut} {c : Corner} {to : ℕ} {start : List ℕ} (ready : ScanRea
       }
 
       -- one left shape more
-      pub lefts_more : {work' : List ℕ} {r : ℕ} → ScannedBeside cut c to wide height stop last work work' r → LeftsTo cut c start work' next stop r
-      lefts_more {work'} {r} sb = go (dec_lt (c.x.0 + wide) W)
+      pub lefts_more : {slot' : List ℕ} {r : ℕ} → ScannedBeside cut c wide height stop last children slot slot' r → LeftsTo cut c children slot' next stop r
+      lefts_more {slot'} {r} sb = go (dec_lt (c.x.0 + wide) W)
         where
-          there : wide < r → KeptTo W H Vertical L R c stop (wide + 1 + (r - 1 - wide)) (bytes_from work' to) → KeptTo W H Vertical L R c stop r (slots_on B work' t c)
-          there w y =
-              let q : wide + 1 + (r - 1 - wide) ≡ r = omega arith in
-              subst (KeptTo W H Vertical L R c stop r) (slot_bytes B t c work' ready.lefts.place) (subst (λ n. KeptTo W H Vertical L R c stop n (bytes_from work' to)) q y)
+          there : wide < r → KeptTo W H Vertical L R c stop (wide + 1 + (r - 1 - wide)) (bytes slot') → KeptTo W H Vertical L R c stop r (bytes slot')
+          there w y = let q : wide + 1 + (r - 1 - wide) ≡ r = omega arith in rw q at y
 
-          go : Dec (c.x.0 + wide < W) → LeftsTo cut c start work' next stop r
+          go : Dec (c.x.0 + wide < W) → LeftsTo cut c children slot' next stop r
           go (no h) = let (ew, er) = sb.off (omega arith) in record {
-            alone = rw ew z.alone;
+            long = rw ew z.long;
             within = omega (arith, z.within, u.within);
             shape = u.holds;
             high = e;
@@ -180,13 +165,11 @@ module _ {cut : Cut} {c : Corner} {to : ℕ} {start : List ℕ} (ready : ScanRea
             kept = rw (ew, er) (no_corner on ls rs stops (λ o. omega (arith, o.column)) z.kept);
           }
           go (yes h) = let (w, bk) = sb.on h in let k = bk.within in record {
-            alone = alone_put z.alone bk.put (λ i y. let b = y.before in let p = ready.lefts.place in (omega arith, omega (arith, z.narrow)));
+            long = bk.put.long ∙ z.long;
             within = omega (arith, z.within, u.within);
             shape = u.holds;
             high = e;
             room = omega (arith, u.within);
             narrow = omega (arith, z.narrow);
-            kept = there w (beside_kept_to on ls rs stops h z.room z.narrow to
-                (subst (KeptTo W H Vertical L R c height last) (sym (slot_bytes B t c work ready.lefts.place)) z.kept)
-                (beside_same (λ i q. child_kept ready.rights z.alone (record { column = h; row = on.row }) i (omega (arith, z.narrow))) bk));
+            kept = there w (beside_kept_to on ls rs stops h z.room z.narrow z.kept bk);
           }

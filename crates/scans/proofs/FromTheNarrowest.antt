@@ -1,10 +1,11 @@
 -- A horizontal cut's left shapes, from the narrowest on: one after the other is scanned, and the slot holds what the scan keeps up to the next one's width.
 -- Assumes nothing.
-use mathlib.Core.Path.{◌≡◌, sym, ◌∙◌, ap, subst}
+use mathlib.Core.Path.{◌≡◌, sym, ◌∙◌, ap}
 use mathlib.Core.List.{List}
 use Prim.Native.Nat.{ℕ, suc, ◌+◌, ◌-◌, ◌≤◌, ◌<◌}
 use native.Mathlib.Omega.{arith}
 use native.Mathlib.Decide.{dec_lt}
+use lib.ListN.{length}
 use Rattle.rules.specs.declared.Corner.{Corner}
 use Rattle.rules.specs.declared.Shape.{Shape}
 use Rattle.rules.specs.declared.Direction.TheVariants.{Horizontal}
@@ -15,33 +16,21 @@ use Rattle.rules.proofs.Keeping.{KeptTo, StopsAt, keeping_begins, keeping_ends, 
 use Rattle.slots.specs.declared.Board.{Board}
 use Rattle.slots.specs.Lent.{slots_on}
 use Rattle.cuts.specs.declared.Cut.{Cut}
-use Rattle.slots.proofs.Lending.{slot_bytes}
-use Rattle.scans.specs.Run.{FirstAfter}
-use Rattle.scans.specs.Scan.{ScanReady, AboveReady, ScannedAbove, SlotAlone, CornerScanned}
-use Rattle.scans.proofs.Above.{above_same}
-use Rattle.scans.proofs.Corners.{alone_none, alone_put, child_kept, reads_still}
+use Rattle.scans.specs.Run.{bytes, FirstAfter}
+use Rattle.scans.specs.Scan.{ScanReady, AboveReady, ScannedAbove, CornerScanned}
 use Rattle.scans.proofs.Horizontal.{above_kept_to}
 
 -- The scan before the left shape of width i + 1, or with none left: what it has kept of narrower boxes stands in the slot.
-pub record LeftsFrom (cut : Cut) (c : Corner) (start work : List ℕ) (i low : ℕ) : Type 0 where
-  pub alone : SlotAlone cut.board cut.t c start work
+pub record LeftsFrom (cut : Cut) (c : Corner) (children slot : List ℕ) (i low : ℕ) : Type 0 where
+  pub long : length slot ≡ cut.board.width.0
   pub within : c.x.0 + i ≤ cut.board.width.0
-  pub shape : c.x.0 + i < cut.board.width.0 → 1 ≤ slots_on cut.board start cut.left c i
+  pub shape : c.x.0 + i < cut.board.width.0 → 1 ≤ slots_on cut.board children cut.left c i
   pub few : low ≤ suc cut.board.height.0
-  pub kept : KeptTo cut.board.width.0 cut.board.height.0 Horizontal (slots_on cut.board start cut.left) (slots_on cut.board start cut.right) c (suc i) low (slots_on cut.board work cut.t c)
+  pub kept : KeptTo cut.board.width.0 cut.board.height.0 Horizontal (slots_on cut.board children cut.left) (slots_on cut.board children cut.right) c (suc i) low (bytes slot)
 
-module _ {cut : Cut} {c : Corner} {to : ℕ} {start : List ℕ} (ready : ScanReady cut c to start) where
+module _ {cut : Cut} {c : Corner} {children empty : List ℕ} (ready : ScanReady cut c children empty) where
   abbrev B : Board
   B = cut.board
-
-  abbrev t : ℕ
-  t = cut.t
-
-  abbrev left : ℕ
-  left = cut.left
-
-  abbrev right : ℕ
-  right = cut.right
 
   abbrev W : ℕ
   W = B.width.0
@@ -50,10 +39,10 @@ module _ {cut : Cut} {c : Corner} {to : ℕ} {start : List ℕ} (ready : ScanRea
   H = B.height.0
 
   abbrev L : Corner → ℕ → ℕ
-  L = slots_on B start left
+  L = slots_on B children cut.left
 
   abbrev R : Corner → ℕ → ℕ
-  R = slots_on B start right
+  R = slots_on B children cut.right
 
   abbrev columns : ℕ
   columns = W - c.x.0
@@ -76,9 +65,9 @@ module _ {cut : Cut} {c : Corner} {to : ℕ} {start : List ℕ} (ready : ScanRea
       go (yes q) = absurd (omega (arith, u.none (s.w.0 - 1) (omega arith) q, x.byte, x.high))
 
   -- at first nothing is kept, and no box is narrower than the narrowest left shape
-  pub lefts_begin : {i : ℕ} → FirstAfter (L c) 0 columns i → LeftsFrom cut c start start i (H - c.y.0 + 1)
+  pub lefts_begin : {i : ℕ} → FirstAfter (L c) 0 columns i → LeftsFrom cut c children empty i (H - c.y.0 + 1)
   lefts_begin {i} u = let b = u.within in let x = on.column in let y = on.row in record {
-    alone = alone_none;
+    long = ready.long;
     within = omega arith;
     shape = λ h. u.holds (omega arith);
     few = omega arith;
@@ -87,10 +76,10 @@ module _ {cut : Cut} {c : Corner} {to : ℕ} {start : List ℕ} (ready : ScanRea
         (λ q z. omega (arith, z.fits.rows));
   }
 
-  module _ {work : List ℕ} {i low : ℕ} (z : LeftsFrom cut c start work i low) where
+  module _ {slot : List ℕ} {i low : ℕ} (z : LeftsFrom cut c children slot i low) where
     -- at last every box is narrower than the columns and one
-    pub lefts_end : W ≤ c.x.0 + i → CornerScanned Horizontal cut c start work
-    lefts_end h = record { alone = z.alone; listed = keeping_ends z.kept (λ q b. omega (arith, b.fits.columns)) }
+    pub lefts_end : W ≤ c.x.0 + i → CornerScanned Horizontal cut c children slot
+    lefts_end h = keeping_ends z.kept (λ q b. omega (arith, b.fits.columns))
 
     module _ (inside : c.x.0 + i < W) {next height : ℕ} (u : FirstAfter (L c) (suc i) columns next) (e : height ≡ L c i) where
       stored : Stores W (L c) (shape (suc i) height)
@@ -108,9 +97,10 @@ module _ {cut : Cut} {c : Corner} {to : ℕ} {start : List ℕ} (ready : ScanRea
       in_columns : c.x.0 + next ≤ W
       in_columns = omega (arith, u.within, on.column)
 
-      pub above_ready : AboveReady cut c to i next height low work
+      pub above_ready : AboveReady cut c i next height low children slot
       above_ready = record {
-        reads = reads_still ready.rights z.alone;
+        reads = ready.rights;
+        long = z.long;
         wider = omega (arith, u.from);
         within = in_columns;
         high = omega (arith, e, (ls c on).rows i (omega arith), on.row);
@@ -118,24 +108,21 @@ module _ {cut : Cut} {c : Corner} {to : ℕ} {start : List ℕ} (ready : ScanRea
       }
 
       -- one left shape more
-      pub lefts_more : {work' : List ℕ} {r : ℕ} → ScannedAbove cut c to i next height low work work' r → LeftsFrom cut c start work' next r
-      lefts_more {work'} {r} sa = go (dec_lt (c.y.0 + height) H)
+      pub lefts_more : {slot' : List ℕ} {r : ℕ} → ScannedAbove cut c i next height low children slot slot' r → LeftsFrom cut c children slot' next r
+      lefts_more {slot'} {r} sa = go (dec_lt (c.y.0 + height) H)
         where
-          go : Dec (c.y.0 + height < H) → LeftsFrom cut c start work' next r
+          go : Dec (c.y.0 + height < H) → LeftsFrom cut c children slot' next r
           go (no h) = let (ew, er) = sa.off (omega arith) in record {
-            alone = rw ew z.alone;
+            long = rw ew z.long;
             within = in_columns;
             shape = λ q. u.holds (omega arith);
             few = omega (arith, z.few);
             kept = rw (ew, er) (no_corner on ls rs stops (λ o. omega (arith, o.row)) z.kept);
           }
           go (yes h) = let ak = sa.on h in record {
-            alone = alone_put z.alone ak.put (λ k y. let b = y.before in let p = ready.lefts.place in (omega arith, omega (arith, u.from, in_columns)));
+            long = ak.put.long ∙ z.long;
             within = in_columns;
             shape = λ q. u.holds (omega arith);
             few = omega (arith, z.few, ak.within);
-            kept = subst (KeptTo W H Horizontal L R c (suc next) r) (slot_bytes B t c work' ready.lefts.place)
-                (above_kept_to on ls rs low stops h in_columns to
-                (subst (KeptTo W H Horizontal L R c (suc i) low) (sym (slot_bytes B t c work ready.lefts.place)) z.kept)
-                (above_same (omega (arith, u.from)) (λ k q. child_kept ready.rights z.alone (record { column = on.column; row = h }) k (omega (arith, in_columns))) ak));
+            kept = above_kept_to on ls rs low stops h in_columns z.kept ak;
           }

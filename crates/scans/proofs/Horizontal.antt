@@ -15,8 +15,7 @@ use Rattle.rules.proofs.Choosing.{byte_stores}
 use Rattle.rules.proofs.Listing.{same_shape}
 use Rattle.rules.proofs.Scanning.{StairsOf}
 use Rattle.rules.proofs.Keeping.{KeptTo, StopsAt, BoxWith, one_left}
-use Rattle.slots.specs.Lent.{bytes_from}
-use Rattle.scans.specs.Run.{KeptAbove, AboveKept}
+use Rattle.scans.specs.Run.{bytes, KeptAbove, AboveKept}
 use Rattle.scans.proofs.Storing.{Boxes, put_stores}
 
 module _ {W H : ℕ} {L R : Corner → ℕ → ℕ} {c : Corner} (on : CornerOn W H c) (ls : StairsOf W H L) (rs : StairsOf W H R) {i next height : ℕ} (low : ℕ)
@@ -61,12 +60,12 @@ module _ {W H : ℕ} {L R : Corner → ℕ → ℕ} {c : Corner} (on : CornerOn 
       )
 
   -- the slot after it holds what the scan keeps up to the next left shape
-  pub above_kept_to : (base : ℕ) {r : ℕ} {before after : List ℕ} → KeptTo W H Horizontal L R c (suc i) low (bytes_from before base)
-      → AboveKept f i next height low base before after r → KeptTo W H Horizontal L R c (suc next) r (bytes_from after base)
-  above_kept_to base {r} {before} {after} kt z = one_left on ls rs at beyond kt kept
+  pub above_kept_to : {r : ℕ} {before after : List ℕ} → KeptTo W H Horizontal L R c (suc i) low (bytes before)
+      → AboveKept f i next height low before after r → KeptTo W H Horizontal L R c (suc next) r (bytes after)
+  above_kept_to {r} {before} {after} kt z = one_left on ls rs at beyond kt kept
       (λ q y. least q y (dec_lt q.h.0 low)) z.within (⊎_elim inl (λ (k, y, e). inr (box k, (kept_box k y).0, sym e)) z.kept)
     where
-      boxes : Boxes W base (KeptAbove f i next height low) (λ k. base + max i k) (λ k. height + f k) box
+      boxes : Boxes W (KeptAbove f i next height low) (λ k. max i k) (λ k. height + f k) box
       boxes = record {
         wide = λ k y. omega arith;
         within = λ k y. let b = y.before in omega (arith, at.above);
@@ -75,9 +74,9 @@ module _ {W H : ℕ} {L R : Corner → ℕ → ℕ} {c : Corner} (on : CornerOn 
         as_high = λ k y. refl;
       }
 
-      kept : (q : Shape) → Stores W (bytes_from after base) q ↔ (Stores W (bytes_from before base) q ⊎ (Its q × (q.h.0 < low)))
+      kept : (q : Shape) → Stores W (bytes after) q ↔ (Stores W (bytes before) q ⊎ (Its q × (q.h.0 < low)))
       kept q =
-          let p = put_stores base boxes z.put (λ q k s y e. omega (arith, ((kt.holds q).0 s).1)) q in (
+          let p = put_stores boxes z.put (λ q k s y e. omega (arith, ((kt.holds q).0 s).1)) q in (
             λ s. ⊎_elim inl (λ (j, y, e). let (i, h) = kept_box j y in inr (rw e i, rw e h)) (p.0 s),
             λ s. p.1 (⊎_elim inl (λ (i, h). inr (box_kept q i h)) s),
           )

@@ -1,15 +1,17 @@
 -- The corners of a cut node: over children that grow, what the scan leaves at each is what all pairs leave, and writing one corner leaves the children
 -- as they are. Assumes nothing.
-use mathlib.Core.Path.{◌≡◌, ◌∙◌}
-use mathlib.Core.Logic.{◌↔◌}
+use mathlib.Core.Path.{◌≡◌, sym, ◌∙◌, ap}
+use mathlib.Core.Logic.{◌↔◌, ◌⊎◌, inl, inr}
 use mathlib.Core.Bool.{Bool}
-use mathlib.Core.List.{List}
-use Prim.Native.Nat.{ℕ, ◌<◌}
+use mathlib.Core.List.{List, ◌++◌}
+use Prim.Native.Nat.{ℕ, ◌+◌, ◌-◌, ◌≤◌, ◌<◌}
 use native.Mathlib.Omega.{arith}
+use lib.ListN.{length, get_or, take, drop}
+use Rattle.std.proofs.lemmas.List.{get_or_append_left, get_or-append-add, get_or-take, get_or-drop, length-append, length-drop, length-take-le}
 use Rattle.rules.specs.declared.Corner.{Corner}
 use Rattle.rules.specs.declared.Shape.{Shape}
 use Rattle.rules.specs.declared.Direction.{Direction}
-use Rattle.rules.specs.Slot.{CornerOn, IsListOf}
+use Rattle.rules.specs.Slot.{slot, CornerOn, IsListOf}
 use Rattle.rules.specs.Edit.{Paired}
 use Rattle.rules.proofs.Agreeing.{Agree, agree_on, agree_back, paired_agree}
 use Rattle.rules.proofs.Listing.{list_unique, same_undominated}
@@ -17,18 +19,25 @@ use Rattle.rules.proofs.Pairing.{pairings_bytes}
 use Rattle.rules.proofs.Scanning.{grows_same, grows_stairs, scan_is_all_pairs}
 use Rattle.slots.specs.declared.Board.{Board}
 use Rattle.slots.specs.Written.{none, Filled, SlotIs, PartIs}
-use Rattle.slots.specs.Lent.{OnBoard, ListedOn, start_on, slots_on, PartOn}
+use Rattle.slots.specs.Lent.{OnBoard, ListedOn, start_on, slots_on, Lent, PartOn}
 use Rattle.cuts.specs.declared.Cut.{Cut}
-use Rattle.slots.proofs.Filling.{same_length, filled_out, slot_filled}
-use Rattle.slots.proofs.Lending.{lent_same, on_board, last_lent}
+use Rattle.slots.proofs.Filling.{same_length, filled_at, filled_out}
+use Rattle.slots.proofs.Lending.{lent_same, on_board, on_listed, slot_lent, last_lent}
+use Rattle.slots.proofs.Writing.{node_from}
 use Rattle.cuts.specs.Cut.{paired_slot}
 use Rattle.cuts.proofs.Nodes.{node_kept, paired_same}
-use Rattle.scans.specs.Scan.{Reads, ScanReady, SlotAlone, CornerScanned, Scannable, CornerPaired}
-use Rattle.scans.proofs.Corners.{child_kept, reads_still}
+use Rattle.scans.specs.Run.{bytes}
+use Rattle.scans.specs.Scan.{GrowsOn, Reads, ScanReady, CornerScanned, Scannable, CornerPaired}
 
 module _ {cut : Cut} {start : List ℕ} (s : Scannable cut start) where
   abbrev B : Board
   B = cut.board
+
+  abbrev W : ℕ
+  W = B.width.0
+
+  abbrev H : ℕ
+  H = B.height.0
 
   abbrev d : Direction
   d = cut.direction
@@ -42,49 +51,100 @@ module _ {cut : Cut} {start : List ℕ} (s : Scannable cut start) where
   abbrev right : ℕ
   right = cut.right
 
-  module _ {c : Corner} (on : OnBoard B c) {to : ℕ} (e : to ≡ start_on B t c) where
-    left_reads : Reads B t left c to start
-    left_reads = record { lent = s.cuttable.lent; before = s.cuttable.first; corner = on; place = e; stairs = grows_stairs s.lefts }
+  -- the slot at a corner is cleared, and the bytes before it lie apart
+  module _ {c : Corner} (on : OnBoard B c) {to : ℕ} (e : to ≡ start_on B t c) {work : List ℕ} (children rest : List ℕ) (f : Filled start to W none work) (q : work ≡ children ++ rest) (l : length children ≡ to) where
+    before : (i : ℕ) → i < to → get_or children i 0 ≡ get_or start i 0
+    before i h = sym (get_or_append_left children rest 0 i (omega arith)) ∙ ap (λ w. get_or w i 0) (sym q) ∙ filled_out f i (inl h)
 
-    right_reads : Reads B t right c to start
-    right_reads = record { lent = s.cuttable.lent; before = s.cuttable.second; corner = on; place = e; stairs = grows_stairs s.rights }
+    behind : (i : ℕ) → get_or rest i 0 ≡ get_or work (to + i) 0
+    behind i = sym (get_or-append-add children rest i 0) ∙ rw (q, l)
 
-    module _ {work : List ℕ} (f : Filled start to B.width.0 none work) where
-      cleared_alone : SlotAlone B t c start work
-      cleared_alone = record { long = same_length f; outside = filled_out (rw e at f) }
+    -- the children's slots are there
+    lent : Lent B t children
+    lent = let a = s.cuttable.lent in let few = a.few in record {
+      wide = a.wide;
+      columns = a.columns;
+      high = a.high;
+      rows = a.rows;
+      chip = a.chip;
+      every = a.every;
+      few = omega arith;
+      bytes = omega (arith, node_from W B.listed.0 t 0 c);
+    }
 
-      -- the slot is cleared, and the children stand
-      pub cleared_ready : ScanReady cut c to work
-      cleared_ready = record {
-        lefts = reads_still left_reads cleared_alone;
-        rights = reads_still right_reads cleared_alone;
-        cleared = (slot_filled B.width.0 B.listed.0 t c none start work (last_lent s.cuttable.lent on) (rw e at f)).inside;
-      }
+    same : (child : ℕ) → child < t → Agree W H (slots_on B start child) (slots_on B children child)
+    unfolding slot
+    same child h = record { at = λ c o j k. sym (before (start_on B child c + j) (omega (arith, slot_lent lent child h (on_listed lent o)))) }
 
-      -- what the scan leaves there is the slot of all pairs
-      corner_cut : {after : List ℕ} → CornerScanned d cut c work after → CornerPaired cut c start after
-      unfolding paired_slot
-      corner_cut {after} z = record {
-        long = z.alone.long ∙ cleared_alone.long;
-        inside = list_unique B.width.0 (slots_on B after t c) (paired_slot cut start c) listed (pairings_bytes B.width.0 B.height.0 d (slots_on B start left) (slots_on B start right) c);
-        outside = λ i h. z.alone.outside i h ∙ cleared_alone.outside i h;
+    reads : (child : ℕ) → child < t → GrowsOn B start child → Reads B t child c children
+    reads child h g = record { lent = lent; before = h; corner = on; stairs = grows_stairs (grows_same (λ c o. (same child h).at c o) g) }
+
+    long : to + W ≤ length work
+    long = omega (arith, same_length f, e, last_lent s.cuttable.lent on)
+
+    rest_long : length rest + to ≡ length work
+    rest_long = omega (arith, ap length q, length-append children rest)
+
+    pub cleared_ready : ScanReady cut c children (take W rest)
+    cleared_ready = record {
+      lefts = reads left s.cuttable.first s.lefts;
+      rights = reads right s.cuttable.second s.rights;
+      long = length-take-le W rest (omega (arith, long, rest_long));
+      cleared = λ j h. get_or-take W rest j 0 h ∙ behind j ∙ filled_at f (omega (arith, long, same_length f)) j h;
+    }
+
+    -- what the scan leaves there is the slot of all pairs
+    module _ (slot' : List ℕ) (long' : length slot' ≡ length (take W rest)) where
+      abbrev after : List ℕ
+      after = children ++ (slot' ++ drop W rest)
+
+      fits : W ≤ length rest
+      fits = omega (arith, long, rest_long)
+
+      slot_long : length slot' ≡ W
+      slot_long = long' ∙ length-take-le W rest fits
+
+      after_long : length after ≡ length start
+      after_long = omega (arith, length-append children (slot' ++ drop W rest), length-append slot' (drop W rest), length-drop W rest, slot_long, fits, rest_long, same_length f)
+
+      inside : (j : ℕ) → j < W → get_or after (to + j) 0 ≡ bytes slot' j
+      inside j h =
+          let a : get_or after (to + j) 0 ≡ get_or (slot' ++ drop W rest) j 0 = rw (← l) (get_or-append-add children (slot' ++ drop W rest) j 0) in
+          a ∙ get_or_append_left slot' (drop W rest) 0 j (omega (arith, slot_long))
+
+      beyond : (u : ℕ) → get_or after (to + (W + u)) 0 ≡ get_or start (to + (W + u)) 0
+      beyond u =
+          let a : get_or after (to + (W + u)) 0 ≡ get_or (slot' ++ drop W rest) (W + u) 0 = rw (← l) (get_or-append-add children (slot' ++ drop W rest) (W + u) 0) in
+          let b : get_or (slot' ++ drop W rest) (W + u) 0 ≡ get_or (drop W rest) u 0 = rw slot_long at (get_or-append-add slot' (drop W rest) u 0) in
+          a ∙ b ∙ get_or-drop W rest u 0 ∙ behind (W + u) ∙ filled_out f (to + (W + u)) (inr (omega arith))
+
+      outside : (i : ℕ) → (i < to) ⊎ (to + W ≤ i) → get_or after i 0 ≡ get_or start i 0
+      outside i (inl h) = get_or_append_left children (slot' ++ drop W rest) 0 i (omega arith) ∙ before i h
+      outside i (inr h) = let p : to + (W + (i - (to + W))) ≡ i = omega arith in rw p at (beyond (i - (to + W)))
+
+      corner_cut : CornerScanned d cut c children slot' → CornerPaired cut c start after
+      unfolding paired_slot slot
+      corner_cut z = record {
+        long = after_long;
+        inside = λ j h. rw (← e) (inside j h) ∙ list_unique W (bytes slot') (paired_slot cut start c) listed (pairings_bytes W H d (slots_on B start left) (slots_on B start right) c) j h;
+        outside = λ i h. outside i (rw (← e) at h);
       }
         where
-          lefts : Agree B.width.0 B.height.0 (slots_on B work left) (slots_on B start left)
-          lefts = record { at = λ c o. child_kept left_reads cleared_alone o }
+          lefts : Agree W H (slots_on B start left) (slots_on B children left)
+          lefts = same left s.cuttable.first
 
-          rights : Agree B.width.0 B.height.0 (slots_on B work right) (slots_on B start right)
-          rights = record { at = λ c o. child_kept right_reads cleared_alone o }
+          rights : Agree W H (slots_on B start right) (slots_on B children right)
+          rights = same right s.cuttable.second
 
-          listed : IsListOf B.width.0 (slots_on B after t c) (Paired B.width.0 B.height.0 d (slots_on B start left) (slots_on B start right) c)
+          listed : IsListOf W (bytes slot') (Paired W H d (slots_on B start left) (slots_on B start right) c)
           listed q =
-              let l = z.listed q in
-              let p = scan_is_all_pairs d (grows_same (λ c o. (agree_back lefts).at c o) s.lefts) (grows_same (λ c o. (agree_back rights).at c o) s.rights) on q in
-              let a : (q : Shape) → Paired B.width.0 B.height.0 d (slots_on B work left) (slots_on B work right) c q ↔ Paired B.width.0 B.height.0 d (slots_on B start left) (slots_on B start right) c q
-              = λ q. (paired_agree B.width.0 B.height.0 d lefts rights c on q, paired_agree B.width.0 B.height.0 d (agree_back lefts) (agree_back rights) c on q) in
+              let l = z q in
+              let p = scan_is_all_pairs d (grows_same (λ c o. lefts.at c o) s.lefts) (grows_same (λ c o. rights.at c o) s.rights) on q in
+              let a : (q : Shape) → Paired W H d (slots_on B children left) (slots_on B children right) c q ↔ Paired W H d (slots_on B start left) (slots_on B start right) c q
+              = λ q. (paired_agree W H d (agree_back lefts) (agree_back rights) c on q, paired_agree W H d lefts rights c on q) in
               (λ y. same_undominated a q (p.0 (l.0 y)), λ u. l.1 (p.1 (same_undominated (λ o. ((a o).1, (a o).0)) q u)))
 
-      pub corner_paired : {k : Direction} {after : List ℕ} → cut.direction ≡ k → CornerScanned k cut c work after → CornerPaired cut c start after
+      pub corner_paired : {k : Direction} → cut.direction ≡ k → CornerScanned k cut c children slot' → CornerPaired cut c start after
       corner_paired q z = corner_cut (rw (← q) at z)
 
   -- some corners are written: the children stand, so the others are scanned as well, and get the slots that the bytes at the start ask for

@@ -7,10 +7,12 @@ use Prim.Native.Nat.{ℕ, ◌+◌, ◌-◌, ◌≤◌, ◌<◌}
 use native.Mathlib.Omega.{arith}
 use native.Mathlib.Nat.{le_refl}
 use native.Mathlib.Decide.{dec_lt, ℕ_discrete}
-use lib.ListN.{length, get_or, set, length-set}
+use lib.ListN.{length, get_or, set, length-set, take}
 use lib.Seq.{get_or-set_same, get_or-set_other}
 use borrow.Author.Tests.{ne_eqb}
-use Rattle.scans.specs.Run.{UpToLast, stop_at, FirstAfter, FoundKept, PlaceOf, Put, Walks, WalkedOn}
+use Rattle.std.specs.Prelude.{Option, Some, IfSome}
+use Rattle.std.proofs.lemmas.List.{get_or-take, length-take-le}
+use Rattle.scans.specs.Run.{UpToLast, stop_at, FirstAfter, FoundKept, PlaceOf, Put, Walks, WalkedOn, bytes, or_end}
 
 pub one_more : {P : ℕ → Type 0} {n : ℕ} (k : ℕ) → 1 ≤ k → ((i : ℕ) → k ≤ i → i < n → P i) → P (k - 1) → (i : ℕ) → k - 1 ≤ i → i < n → P i
 one_more {P} {n} k h f p i u v = go (ℕ_discrete (k - 1) i)
@@ -69,10 +71,6 @@ module _ {Kept : ℕ → Type 0} {place value : ℕ → ℕ} {before mid : List 
         here? i f (yes q) = inl (k, new, q)
         here? i f (no q) = inr (λ (j, z, r). ⊎_elim (λ y. f (j, y, r)) (λ e. q (rw e at r)) (out j z))
 
-    -- a byte before all places is read as it was
-    pub put_reads : (i : ℕ) → ((k : ℕ) → Kept k → i < place k) → get_or mid i 0 ≡ get_or before i 0
-    put_reads i far = p.others i (λ (k, z, e). omega (arith, far k z))
-
 -- walking on: the shape before is put too; or there is none
 module _ {f : ℕ → ℕ} {n k : ℕ} (to : ℕ) {before mid : List ℕ} (h : 1 ≤ k) (p : Put (Walks f k n) (λ j. to + j) f before mid) where
   pub walk_more : {v : ℕ} → k ≤ n → 1 ≤ f (k - 1) → v ≡ f (k - 1) → to + (k - 1) < length mid → Put (Walks f (k - 1) n) (λ j. to + j) f before (set mid (to + (k - 1)) v)
@@ -115,10 +113,13 @@ module _ {Kept Kept' : ℕ → Type 0} {place place' value value' : ℕ → ℕ}
       here k (inl (z, e, v, o)) = p'.others _ o ∙ rw (← e) (p.here k z) ∙ v
       here k (inr (z, e, v)) = rw (← e) (p'.here k z) ∙ v
 
-pub found_put : {found n height : ℕ} (to : ℕ) {before : List ℕ} → found < n → to + n ≤ length before → FoundKept found n height to before (set before (to + found) height)
-found_put {found} {n} {height} to {before} h l =
-    one_put (nothing_put {Kept = λ _. ⊥} {place = λ k. to + k} {value = λ _. height} (λ k z. z)) found height (record { is = refl; before = h })
-    (λ i z. absurd z) (λ i z. inr z.is) (λ i z. absurd z) (omega arith) refl
+pub found_put : {height j : ℕ} (to : ℕ) {before : List ℕ} → to + j < length before → FoundKept (Some j) height to before (set before (to + j) height)
+found_put {height} {j} to {before} l =
+    one_put (nothing_put {Kept = λ _. ⊥} {place = λ k. to + k} {value = λ _. height} (λ k z. z)) j height refl
+    (λ i z. absurd z) (λ i z. inr (some_is z)) (λ i z. absurd z) l refl
+  where
+    some_is : {i : ℕ} → Some j ≡ Some i → i ≡ j
+    some_is e = cc
 
 -- the stop: the height of the last of n bytes, or none
 pub stop_some : (f : ℕ → ℕ) (n : ℕ) → 1 ≤ n → stop_at f n ≡ f (n - 1)
@@ -168,3 +169,25 @@ module _ {f g : ℕ → ℕ} {n : ℕ} (e : (k : ℕ) → k < n → f k ≡ g k)
 
       back : (k : ℕ) → Walks g w.end n k → Walks f w.end n k
       back k z = record { from = z.from; before = z.before; shape = omega (arith, z.shape, e k z.before) }
+
+-- and so on those of its first bytes
+module _ (slot : List ℕ) {m : ℕ} (h : m ≤ length slot) where
+  taken : (k : ℕ) → k < m → bytes (take m slot) k ≡ bytes slot k
+  taken k q = get_or-take m slot k 0 q
+
+  long : length (take m slot) ≡ m
+  long = length-take-le m slot h
+
+  pub up_taken : {r : ℕ} → UpToLast (bytes (take m slot)) (length (take m slot)) r → UpToLast (bytes slot) m r
+  up_taken u = up_same taken (rw long at u)
+
+  pub stop_taken : stop_at (bytes (take m slot)) (length (take m slot)) ≡ stop_at (bytes slot) m
+  stop_taken = ap (stop_at (bytes (take m slot))) long ∙ stop_same taken
+
+  pub walked_taken : {stop to : ℕ} (o : Option ℕ) {before after : List ℕ}
+      → WalkedOn (bytes (take m slot)) (length (take m slot)) stop to before after (or_end (length (take m slot)) o)
+      → WalkedOn (bytes slot) m stop to before after (or_end m o)
+  walked_taken o w = walked_same taken (rw long at w)
+
+  pub within_taken : (o : Option ℕ) → IfSome o (λ k. k < length (take m slot)) → IfSome o (λ k. k < m)
+  within_taken o w = rw long at w

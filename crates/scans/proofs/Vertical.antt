@@ -15,8 +15,7 @@ use Rattle.rules.proofs.Choosing.{byte_stores}
 use Rattle.rules.proofs.Listing.{same_shape}
 use Rattle.rules.proofs.Scanning.{StairsOf}
 use Rattle.rules.proofs.Keeping.{KeptTo, StopsAt, BoxWith, one_left}
-use Rattle.slots.specs.Lent.{bytes_from}
-use Rattle.scans.specs.Run.{KeptBeside, BesideKept}
+use Rattle.scans.specs.Run.{bytes, KeptBeside, BesideKept}
 use Rattle.scans.proofs.Storing.{Boxes, put_stores}
 
 module _ {W H : ℕ} {L R : Corner → ℕ → ℕ} {c : Corner} (on : CornerOn W H c) (ls : StairsOf W H L) (rs : StairsOf W H R) {wide height stop last : ℕ}
@@ -78,12 +77,12 @@ module _ {W H : ℕ} {L R : Corner → ℕ → ℕ} {c : Corner} (on : CornerOn 
           absurd (omega (arith, x.byte, (rs (corner (c.x.0 + wide) c.y.0) beyond).fall i (z.o.w.0 - 1) p (omega arith) s (omega (arith, x.byte, x.high))))
 
   -- the slot after it holds what the scan keeps up to the stop
-  pub beside_kept_to : (base : ℕ) {k : ℕ} {before after : List ℕ} → KeptTo W H Vertical L R c height last (bytes_from before base)
-      → BesideKept f n height stop (base + wide) before after k → KeptTo W H Vertical L R c stop (wide + 1 + k) (bytes_from after base)
-  beside_kept_to base {k} {before} {after} kt z = one_left on ls rs at beyond kt kept
+  pub beside_kept_to : {k : ℕ} {before after : List ℕ} → KeptTo W H Vertical L R c height last (bytes before)
+      → BesideKept f n height stop wide before after k → KeptTo W H Vertical L R c stop (wide + 1 + k) (bytes after)
+  beside_kept_to {k} {before} {after} kt z = one_left on ls rs at beyond kt kept
       (λ q y. least q y (dec_lt q.w.0 last)) (omega (arith, z.within)) (new (dec_lt k n))
     where
-      boxes : Boxes W base (KeptBeside f n height stop) (λ k. base + wide + k) (λ k. max height (f k)) box
+      boxes : Boxes W (KeptBeside f n height stop) (λ k. wide + k) (λ k. max height (f k)) box
       boxes = record {
         wide = λ k y. omega arith;
         within = λ k y. let b = y.before in omega arith;
@@ -92,9 +91,9 @@ module _ {W H : ℕ} {L R : Corner → ℕ → ℕ} {c : Corner} (on : CornerOn 
         as_high = λ k y. refl;
       }
 
-      kept : (q : Shape) → Stores W (bytes_from after base) q ↔ (Stores W (bytes_from before base) q ⊎ (Its q × (q.w.0 < last)))
+      kept : (q : Shape) → Stores W (bytes after) q ↔ (Stores W (bytes before) q ⊎ (Its q × (q.w.0 < last)))
       kept q =
-          let p = put_stores base boxes z.put (λ q k s y e. let b = y.before in let u = (kt.holds q).0 s in omega (arith, kt.bound q u.0.is u.1)) q in (
+          let p = put_stores boxes z.put (λ q k s y e. let b = y.before in let u = (kt.holds q).0 s in omega (arith, kt.bound q u.0.is u.1)) q in (
             λ s. ⊎_elim inl (λ (j, y, e). let (i, h) = kept_box j y in inr (rw e i, rw e h)) (p.0 s),
             λ s. p.1 (⊎_elim inl (λ (i, h). inr (box_kept q i h)) s),
           )

@@ -1,7 +1,17 @@
--- What the scan's loops find in a run of bytes, f 0, f 1, and so on: a byte that is not 0 is the height of a shape, of the width j + 1.
+-- What the scan's loops find among the bytes of a slot, f 0, f 1, and so on: a byte that is not 0 is the height of a shape, of the width j + 1. What
+-- is kept goes to another slot.
 use Rattle.std.specs.Prelude.{◌≡◌, ◌⊎◌, true, false, List, ℕ, ◌+◌, ◌-◌, ◌≤◌, ◌<◌, max, eqb, length, get_or}
-use Rattle.slots.specs.Lent.{bytes_from}
+use Rattle.std.specs.Prelude.{Option, Some, None}
 use Rattle.scans.specs.declared.Looked.{Looked}
+
+-- the bytes of a slot
+abbrev pub bytes : List ℕ → ℕ → ℕ
+bytes slot j = get_or slot j 0
+
+-- a place among n bytes, or n where there is none
+abbrev pub or_end : ℕ → Option ℕ → ℕ
+or_end n (Some k) = k
+or_end n None = n
 
 -- of the first n bytes these many are up to the last that holds a shape
 pub record UpToLast (f : ℕ → ℕ) (n r : ℕ) : Type 0 where
@@ -25,7 +35,7 @@ pub record LookedUp (f : ℕ → ℕ) (n height : ℕ) (r : Looked) : Type 0 whe
   pub within : r.higher ≤ n
   pub over : 1 ≤ r.higher → height < f (r.higher - 1)
   pub under : (k : ℕ) → r.higher ≤ k → k < n → f k ≤ height
-  pub found : FirstAfter f r.higher n r.found
+  pub found : FirstAfter f r.higher n (or_end n r.found)
 
 -- a byte is at the place of one of these numbers
 abbrev pub PlaceOf : (ℕ → Type 0) → (ℕ → ℕ) → ℕ → Type 0
@@ -39,12 +49,8 @@ pub record Put (Kept : ℕ → Type 0) (place value : ℕ → ℕ) (before after
   pub known : (i : ℕ) → PlaceOf Kept place i ⊎ (PlaceOf Kept place i → ⊥)
 
 -- what was looked up is put, with the left shape's height
-pub record Found (found n k : ℕ) : Type 0 where
-  pub is : k ≡ found
-  pub before : k < n
-
-abbrev pub FoundKept : ℕ → ℕ → ℕ → ℕ → List ℕ → List ℕ → Type 0
-FoundKept found n height to before after = Put (Found found n) (λ k. to + k) (λ _. height) before after
+abbrev pub FoundKept : Option ℕ → ℕ → ℕ → List ℕ → List ℕ → Type 0
+FoundKept found height to before after = Put (λ k. found ≡ Some k) (λ k. to + k) (λ _. height) before after
 
 -- from the last of n bytes down to `end`, every shape is lower than the stop and is put, at the same place from `to` on; `last` is the narrowest
 pub record Walks (f : ℕ → ℕ) (end n k : ℕ) : Type 0 where
@@ -85,8 +91,8 @@ pub record Widest (f : ℕ → ℕ) (i height low k : ℕ) : Type 0 where
   pub none : (j : ℕ) → k < j → j ≤ i → f j ≡ 0
   pub lower : height + f k < low
 
-pub record WidestKept (f : ℕ → ℕ) (i height low to : ℕ) (before after : List ℕ) (last : ℕ) : Type 0 where
-  pub put : Put (Widest f i height low) (λ _. to + i) (λ k. height + f k) before after
+pub record WidestKept (f : ℕ → ℕ) (i height low : ℕ) (before after : List ℕ) (last : ℕ) : Type 0 where
+  pub put : Put (Widest f i height low) (λ _. i) (λ k. height + f k) before after
   pub last_of : ((last ≡ low) × ((k : ℕ) → Widest f i height low k → ⊥)) ⊎ ((k : ℕ) × Widest f i height low k × (last ≡ height + f k))
 
 -- from byte a up to n, every shape that stays lower than `low` on top of a height is put, with that height; `last` is that of the last one
@@ -96,8 +102,8 @@ pub record Lower (f : ℕ → ℕ) (a n height low k : ℕ) : Type 0 where
   pub shape : 1 ≤ f k
   pub lower : height + f k < low
 
-pub record WalkedUp (f : ℕ → ℕ) (a n height low to : ℕ) (before after : List ℕ) (last : ℕ) : Type 0 where
-  pub put : Put (Lower f a n height low) (λ k. to + k) (λ k. height + f k) before after
+pub record WalkedUp (f : ℕ → ℕ) (a n height low : ℕ) (before after : List ℕ) (last : ℕ) : Type 0 where
+  pub put : Put (Lower f a n height low) (λ k. k) (λ k. height + f k) before after
   pub last_of : ((last ≡ low) × ((k : ℕ) → Lower f a n height low k → ⊥))
       ⊎ ((k : ℕ) × Lower f a n height low k × (last ≡ height + f k) × ((i : ℕ) → Lower f a n height low i → i ≤ k))
 
@@ -109,24 +115,15 @@ pub record KeptAbove (f : ℕ → ℕ) (i next height low k : ℕ) : Type 0 wher
   pub first : (j : ℕ) → j ≤ i → 1 ≤ f j → j ≤ k
   pub lower : height + f k < low
 
-pub record AboveKept (f : ℕ → ℕ) (i next height low to : ℕ) (before after : List ℕ) (last : ℕ) : Type 0 where
-  pub put : Put (KeptAbove f i next height low) (λ k. to + max i k) (λ k. height + f k) before after
+pub record AboveKept (f : ℕ → ℕ) (i next height low : ℕ) (before after : List ℕ) (last : ℕ) : Type 0 where
+  pub put : Put (KeptAbove f i next height low) (λ k. max i k) (λ k. height + f k) before after
   pub within : last ≤ low
   pub kept : (last ≡ low) ⊎ ((k : ℕ) × KeptAbove f i next height low k × (last ≡ height + f k))
   pub least : (k : ℕ) → KeptAbove f i next height low k → last ≤ height + f k
 
--- the same of the work bytes from a place on, as they stood before
-abbrev pub WalkedOnFrom : ℕ → ℕ → ℕ → ℕ → List ℕ → List ℕ → ℕ → Type 0
-WalkedOnFrom from n stop to before after = WalkedOn (bytes_from before from) n stop to before after
+-- the same of a right slot's bytes, where there may be no last one
+abbrev pub WalkedOnIn : List ℕ → ℕ → ℕ → List ℕ → List ℕ → Option ℕ → Type 0
+WalkedOnIn right stop to before after last = WalkedOn (bytes right) (length right) stop to before after (or_end (length right) last)
 
-abbrev pub BesideKeptFrom : ℕ → ℕ → ℕ → ℕ → ℕ → List ℕ → List ℕ → ℕ → Type 0
-BesideKeptFrom from n height stop to before after = BesideKept (bytes_from before from) n height stop to before after
-
-abbrev pub WidestKeptFrom : ℕ → ℕ → ℕ → ℕ → ℕ → List ℕ → List ℕ → ℕ → Type 0
-WidestKeptFrom from i height low to before after = WidestKept (bytes_from before from) i height low to before after
-
-abbrev pub WalkedUpFrom : ℕ → ℕ → ℕ → ℕ → ℕ → ℕ → List ℕ → List ℕ → ℕ → Type 0
-WalkedUpFrom from a n height low to before after = WalkedUp (bytes_from before from) a n height low to before after
-
-abbrev pub AboveKeptFrom : ℕ → ℕ → ℕ → ℕ → ℕ → ℕ → List ℕ → List ℕ → ℕ → Type 0
-AboveKeptFrom from i next height low to before after = AboveKept (bytes_from before from) i next height low to before after
+abbrev pub BesideKeptIn : List ℕ → ℕ → ℕ → ℕ → List ℕ → List ℕ → Option ℕ → Type 0
+BesideKeptIn right height stop to before after last = BesideKept (bytes right) (length right) height stop to before after (or_end (length right) last)

@@ -1,22 +1,23 @@
--- `scans::scan_above` meets its contract: the right child's slot at the corner above falls and stands before the one that is written. Assumes nothing.
+-- `scans::scan_above` meets its contract: the right child's slot at the corner above falls, and what is kept of it is what is to be kept. Assumes
+-- nothing.
 use mathlib.Core.Path.{refl}
 use native.Mathlib.Omega.{arith}
-use Rattle.scans.proofs.Corners.{child_before, slot_ends, child_falls, above_on, kept_up_slot}
+use Rattle.scans.proofs.Corners.{child_lent, child_falls, kept_up_slot}
 use Rattle.scans.proofs.scan_above.Goals as goal
 
 pub returns-then-cut-y : goal.returns-then-cut-y
 returns-then-cut-y c = record { off = λ _. (refl, refl); on = λ h. absurd (omega (arith, c.if-cut-y.true)) }
 
+pub slot_part-right-requires : goal.slot_part-right-requires
+slot_part-right-requires c = let p = c.requires in (child_lent p.reads, record { column = p.reads.corner.column; row = c.if-cut-y.false }, omega (arith, p.within))
+
 pub keep_above-requires : goal.keep_above-requires
 keep_above-requires c =
-    let p = c.requires in let r = p.reads in
-    let on = above_on c.args.height r (omega (arith, c.if-cut-y.false)) in let e = c.slot_start-from.ensures.0 in
-    let w = p.within in let h = r.lent.rows in let g = p.high in let f = p.few in
+    let p = c.requires in let z = c.slot_part-right.ensures in let w = p.within in let h = p.reads.lent.rows in let g = p.high in let f = p.few in
     record {
-      i_lt_next = (p.wider, omega (arith, child_before r on), omega (arith, slot_ends r), omega arith, omega arith);
-      falls = child_falls r on e (omega arith);
+      within = (omega (arith, z.long, p.wider), omega (arith, z.long, p.long), omega arith, omega arith);
+      falls = child_falls p.reads (record { column = p.reads.corner.column; row = c.if-cut-y.false }) z (omega arith);
     }
 
 pub returns : goal.returns
-returns c =
-    kept_up_slot (omega (arith, c.if-cut-y.false)) c.slot_start-from.ensures.0 c.keep_above.ensures
+returns c = kept_up_slot c.requires.wider c.if-cut-y.false c.slot_part-right.ensures c.keep_above.ensures

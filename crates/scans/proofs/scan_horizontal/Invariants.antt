@@ -5,7 +5,7 @@ use Rattle.scans.proofs.FromTheNarrowest.{LeftsFrom}
 use Rattle.scans.proofs.scan_horizontal.Given as goal
 
 abbrev pub invariant-loop-i : goal.invariant-loop-i
-invariant-loop-i l = LeftsFrom l.cut l.at l.initial.work l.work l.i l.low
+invariant-loop-i l = LeftsFrom l.cut l.at l.children l.slot l.i l.low
 
 abbrev pub decreases-loop-i : goal.decreases-loop-i
 decreases-loop-i l = l.columns - l.i

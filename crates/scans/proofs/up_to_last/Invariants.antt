@@ -1,11 +1,9 @@
--- `scans::up_to_last` meets its contract. The loop's invariant: the bytes from k on hold no shape. The measure is how many are left. Assumes nothing.
+-- `scans::up_to_last` meets its contract. The loop's invariant: the bytes from k on hold no shape. Assumes nothing.
 use mathlib.Core.Path.{◌≡◌}
-use Prim.Native.Nat.{ℕ, ◌+◌, ◌≤◌, ◌<◌}
-use lib.ListN.{get_or}
+use Prim.Native.Nat.{ℕ, ◌≤◌, ◌<◌}
+use lib.ListN.{length}
+use Rattle.scans.specs.Run.{bytes}
 use Rattle.scans.proofs.up_to_last.Given as goal
 
 abbrev pub invariant-loop-k : goal.invariant-loop-k
-invariant-loop-k l = (l.k ≤ l.n) × ((j : ℕ) → l.k ≤ j → j < l.n → get_or l.work (l.from + j) 0 ≡ 0)
-
-abbrev pub decreases-loop-k : goal.decreases-loop-k
-decreases-loop-k l = l.k
+invariant-loop-k l = (j : ℕ) → l.k ≤ j → j < length l.slot → bytes l.slot j ≡ 0
