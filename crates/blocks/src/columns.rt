@@ -150,10 +150,8 @@ impl<'a> Column<'a> {
 
     // How many of its blocks a region that has it holds.
     pub fn held_by(self, r: Region) -> usize
-        ensures {
-            let c = column self.entry.grid.chip.now self.entry.x in
-            result ≡ count c.many (covers_block c (bottom r.rectangle) (top r.rectangle))
-        }
+        ensures { let c = column self.entry.grid.chip.now self.entry.x in
+            result ≡ count c.many (covers_block c (bottom r.rectangle) (top r.rectangle)) }
     {
         let many = self.many();
         let mut held = 0;

@@ -1,52 +1,77 @@
-// Amounts and spans in words.
-ghost use Rattle.std.specs.Prelude.{◌≡◌, ◌*◌, ◌≤◌, ◌<◌, length};
-ghost use Rattle.rules.specs.Design.{most_rows};
-ghost use Rattle.rules.proofs.Limits.{NeedLimits};
-ghost use Rattle.rows.specs.Row.{Bytes};
+// Amounts and places in words.
+ghost use Rattle.std.specs.Prelude.{◌≡◌, ◌*◌, ◌≤◌, ◌<◌};
 
-use rules::{Need, Rectangle, Rows};
-use telling::{put_byte, put_number, put_word};
+use blocks::{Grid, Kind, Module, Region, Span};
+use rules::Need;
+use std::fmt;
+use std::fmt::{Display, Write};
 
-// Puts how many there are of a thing, a space before it: ` 1 RAM`, ` 2 RAMs`.
-pub fn put_amount(out: &mut [u8], at: usize, n: usize, thing: &[u8]) -> usize
-    requires { at ≤ length out.old }
-    ensures { result ≤ length out.new }
-{
-    let next = put_number(out, at, b' ', n);
-    let next = put_byte(out, next, b' ');
-    let next = put_word(out, next, thing);
-    if n == 1 {
-        return next;
+// How many there are of a thing: `1 RAM`, `2 RAMs`.
+#[derive(Clone, Copy)]
+pub struct Amount<T>(pub usize, pub T);
+
+impl<T: Display> Display for Amount<T> {
+    fn fmt<W: Write>(&self, f: &mut fmt::Formatter<W>) -> fmt::Result {
+        write!(f, "{} {}", self.0, self.1)?;
+        if self.0 == 1 { Ok(()) } else { write!(f, "s") }
     }
-    put_byte(out, next, b's')
 }
 
-// Puts how many there are of each kind.
-pub fn put_amounts(out: &mut [u8], at: usize, amounts: Need) -> usize
-    requires { at ≤ length out.old }
-    ensures { result ≤ length out.new }
-{
-    let next = put_amount(out, at, amounts.clbs, b"CLB");
-    let next = put_byte(out, next, b',');
-    let next = put_amount(out, next, amounts.rams, b"RAM");
-    let next = put_byte(out, next, b',');
-    put_amount(out, next, amounts.multipliers, b"multiplier")
+// How many there are of each kind.
+#[derive(Clone, Copy)]
+pub struct Amounts(pub Need);
+
+impl Display for Amounts {
+    fn fmt<W: Write>(&self, f: &mut fmt::Formatter<W>) -> fmt::Result {
+        let clbs = Amount(self.0.clbs, Kind::Clb);
+        let rams = Amount(self.0.rams, Kind::Ram);
+        let multipliers = Amount(self.0.multipliers, Kind::Multiplier);
+        write!(f, "{clbs}, {rams}, {multipliers}")
+    }
 }
 
-// Puts the columns, or rows, from `from` to before `end`: ` column 4`, ` columns 4 to 6`.
-pub fn put_span(out: &mut [u8], at: usize, thing: &[u8], from: usize, end: usize) -> usize
-    requires { at ≤ length out.old }
-    ensures { result ≤ length out.new }
-{
-    let last = if from < end { end - 1 } else { from };
-    let next = put_word(out, at, thing);
-    if last == from {
-        return put_number(out, next, b' ', from);
+// The columns, or rows, from one to before another: `column 4`, `columns 4 to 6`.
+#[derive(Clone, Copy)]
+pub struct Among {
+    thing: &'static str,
+    from: usize,
+    end: usize,
+}
+
+impl Display for Among {
+    fn fmt<W: Write>(&self, f: &mut fmt::Formatter<W>) -> fmt::Result {
+        let (thing, from) = (self.thing, self.from);
+        let last = self.end.saturating_sub(1);
+        if last <= from {
+            return write!(f, "{thing} {from}");
+        }
+        write!(f, "{thing}s {from} to {last}")
     }
-    let next = put_byte(out, next, b's');
-    let next = put_number(out, next, b' ', from);
-    let next = put_word(out, next, b" to");
-    put_number(out, next, b' ', last)
+}
+
+// The rows of a span.
+pub fn rows_of(span: Span) -> Among {
+    Among {
+        thing: "row",
+        from: span.low.0,
+        end: span.far.0,
+    }
+}
+
+// A region's columns and rows.
+#[derive(Clone, Copy)]
+pub struct Place(pub Region);
+
+impl Display for Place {
+    fn fmt<W: Write>(&self, f: &mut fmt::Formatter<W>) -> fmt::Result {
+        let columns = Among {
+            thing: "column",
+            from: self.0.left(),
+            end: self.0.right(),
+        };
+        let rows = rows_of(self.0.rows());
+        write!(f, "{columns}, {rows}")
+    }
 }
 
 // A product of two numbers that are small enough.
@@ -58,17 +83,15 @@ fn product(a: usize, b: usize) -> usize
 }
 
 // How many cells a region has.
-pub fn cells_of(r: Rectangle) -> usize
-    requires { Bytes r }
-    ensures { result ≡ r.shape.w.0 * r.shape.h.0 }
+pub fn cells_of(r: Region) -> usize
+    ensures { result ≡ r.rectangle.shape.w.0 * r.rectangle.shape.h.0 }
 {
-    product(r.shape.w.0, r.shape.h.0)
+    product(r.rectangle.shape.w.0, r.rectangle.shape.h.0)
 }
 
-// How many of so many cells nothing needs: a CLB takes one, and a block as many as it is high.
-pub fn idle_cells(block: Rows, cells: usize, need: Need) -> usize
-    requires { (block.0 ≤ most_rows) × NeedLimits need }
-{
-    let taken = need.clbs + product(block.0, need.rams + need.multipliers);
-    if taken < cells { cells - taken } else { 0 }
+// How many of its cells nothing needs: a CLB takes one, and a block as many as it is high.
+pub fn idle_cells(grid: Grid, module: Module) -> usize {
+    let need = module.need;
+    let taken = need.clbs + product(grid.chip.block.0, need.rams + need.multipliers);
+    cells_of(module.region).saturating_sub(taken)
 }

@@ -1,76 +1,107 @@
-// The parts of the draw program's input.
-ghost use Rattle.std.specs.Prelude.{◌<◌};
-ghost use Rattle.rules.specs.Design.{most_modules};
-
+// The parts of the draw program's input: a header line, a design's bytes and the plan program's text.
+use crate::refusing::Replied;
+use blocks::Region;
 use check::same;
 use rows::row_out;
 use rules::{Columns, Corner, MOST_MODULES, Rectangle, Rows, Shape};
-use words::{count, is_fine, next_of, number_in, numbers_in, word, words};
+use words::{count, is_fine, number_in, numbers_in, word, words};
 
 // Bytes for the rows of any design.
 pub const ROWS_SIZE: usize = 4 * MOST_MODULES;
 
 const MOST_BYTE: usize = 255;
 
-// The first line: `text LENGTH` or `svg LENGTH`, if it says so, with the number of the design's bytes.
+// How a floorplan is drawn.
 #[derive(Clone, Copy)]
-pub struct Header {
-    pub good: bool,
-    pub svg: bool,
-    pub length: usize,
+pub enum Format {
+    Text,
+    Svg,
 }
 
-// The first line of the plan's text: `plan 0 W H`, or `plan NUMBER POSITION`, if it says so.
+// The first line, `text LENGTH` or `svg LENGTH`, with the number of the design's bytes.
 #[derive(Clone, Copy)]
-pub struct Plan {
-    pub good: bool,
-    pub number: usize,
-    pub first: usize,
-    pub second: usize,
+struct Header {
+    format: Format,
+    length: usize,
+}
+
+// What the input says: the plan's answer is its box or a refusal, and each of its other lines is a row.
+#[derive(Clone, Copy)]
+pub struct Parts<'a> {
+    pub format: Format,
+    pub design: &'a [u8],
+    pub plan: Result<Shape, Replied>,
+    pub lines: &'a [u8],
+}
+
+// The first line of a text, if it ends, and what follows it.
+fn line_of(text: &[u8]) -> Option<(&[u8], &[u8])> {
+    let end = text.iter().position(|b| *b == b'\n')?;
+    Some((&text[..end], &text[end + 1..]))
 }
 
 // The header in a line.
-pub fn header_in(line: &[u8]) -> Header {
-    let svg = same(word(line, 0), b"svg");
-    let named = svg || same(word(line, 0), b"text");
+fn header_in(line: &[u8]) -> Option<Header> {
+    let format = match word(line, 0) {
+        b"text" => Format::Text,
+        b"svg" => Format::Svg,
+        _ => return None,
+    };
     let length = number_in(word(line, 1));
-    Header {
-        good: named && is_fine(length.why) && count(line) == 2,
-        svg,
-        length: length.n,
+    if count(line) != 2 || !is_fine(length.why) {
+        return None;
     }
+    Some(Header {
+        format,
+        length: length.n,
+    })
 }
 
-// The plan's answer in a line.
-pub fn plan_in(line: &[u8]) -> Plan {
+// The plan's answer in its first line: `plan 0 W H`, or `plan NUMBER POSITION`.
+fn plan_in(line: &[u8]) -> Option<Result<Shape, Replied>> {
     let mut said = [0usize; 3];
     let numbers = is_fine(numbers_in(b' ', words(line, 1, 3), &mut said))
         || is_fine(numbers_in(b' ', words(line, 1, 2), &mut said));
-    let number = said[0];
+    let [number, first, second] = said;
     let many = if number == 0 { 4 } else { 3 };
-    Plan {
-        good: numbers && same(word(line, 0), b"plan") && count(line) == many,
-        number,
-        first: said[1],
-        second: said[2],
+    if !numbers || !same(word(line, 0), b"plan") || count(line) != many {
+        return None;
     }
+    if number != 0 {
+        return Some(Err(Replied {
+            number,
+            value: first,
+        }));
+    }
+    Some(Ok(Shape {
+        w: Columns(first),
+        h: Rows(second),
+    }))
 }
 
-// Stores a row for module k, if its numbers are bytes.
-fn store(rows: &mut [u8; ROWS_SIZE], k: usize, x: usize, y: usize, w: usize, h: usize) -> bool
-    requires { k < most_modules }
-{
-    if x > MOST_BYTE {
-        return false;
+// The parts of an input.
+pub fn parts_in(input: &[u8]) -> Option<Parts<'_>> {
+    let (first, rest) = line_of(input)?;
+    let header = header_in(first)?;
+    let (design, text) = rest.split_at_checked(header.length)?;
+    let (first, lines) = line_of(text)?;
+    Some(Parts {
+        format: header.format,
+        design,
+        plan: plan_in(first)?,
+        lines,
+    })
+}
+
+// The region of module k that a line says, `k x y w h`: its numbers are bytes.
+fn region_in(line: &[u8], k: usize) -> Option<Region> {
+    let mut said = [0usize; 5];
+    if count(line) != 5 || !is_fine(numbers_in(b' ', line, &mut said)) {
+        return None;
     }
-    if y > MOST_BYTE {
-        return false;
-    }
-    if w > MOST_BYTE {
-        return false;
-    }
-    if h > MOST_BYTE {
-        return false;
+    let [number, x, y, w, h] = said;
+    if number != k || x > MOST_BYTE || y > MOST_BYTE || w > MOST_BYTE || h > MOST_BYTE {
+        return None;
     }
     let corner = Corner {
         x: Columns(x),
@@ -80,42 +111,19 @@ fn store(rows: &mut [u8; ROWS_SIZE], k: usize, x: usize, y: usize, w: usize, h: 
         w: Columns(w),
         h: Rows(h),
     };
-    row_out(rows, k, Rectangle { corner, shape });
-    true
+    Some(Region {
+        rectangle: Rectangle { corner, shape },
+    })
 }
 
-// Stores the row of module k that a line says, `k x y w h`, if it says one.
-fn row_in(line: &[u8], k: usize, rows: &mut [u8; ROWS_SIZE]) -> bool
-    requires { k < most_modules }
-{
-    if count(line) != 5 {
-        return false;
+// The rows that a text says, a line for each module and nothing after them. No design has more modules than there are rows.
+pub fn rows_in(text: &[u8], modules: usize) -> Option<[u8; ROWS_SIZE]> {
+    let mut rows = [0u8; ROWS_SIZE];
+    let mut rest = text;
+    for k in 0..modules.min(MOST_MODULES) {
+        let (line, after) = line_of(rest)?;
+        row_out(&mut rows, k, region_in(line, k)?.rectangle);
+        rest = after;
     }
-    let mut said = [0usize; 5];
-    if !is_fine(numbers_in(b' ', line, &mut said)) {
-        return false;
-    }
-    if said[0] != k {
-        return false;
-    }
-    store(rows, k, said[1], said[2], said[3], said[4])
-}
-
-// Stores the rows that a text says, a line for each module and nothing after them, if it says them so.
-pub fn rows_in(text: &[u8], modules: usize, rows: &mut [u8; ROWS_SIZE]) -> bool {
-    let mut from = 0;
-    for k in 0..MOST_MODULES {
-        if k == modules {
-            return from == text.len();
-        }
-        let end = next_of(b'\n', text, from);
-        if end == text.len() {
-            return false;
-        }
-        if !row_in(&text[from..end], k, rows) {
-            return false;
-        }
-        from = end + 1;
-    }
-    from == text.len()
+    if rest.is_empty() { Some(rows) } else { None }
 }

@@ -5,132 +5,92 @@
 mod input;
 mod refusing;
 
+ghost use Rattle.std.specs.Prelude.{◌≤◌};
+ghost use Rattle.rules.specs.Design.{most_columns, most_rows};
 ghost use Rattle.blocks.specs.Drawable.{Drawable};
 
+use blocks::Floorplan;
 use cellweaver::{check, read};
-use input::{ROWS_SIZE, header_in, plan_in, rows_in};
-use pen::LINE_SIZE;
-use refusing::{refuse, refuse_by, unreadable};
+use input::{Format, ROWS_SIZE, parts_in, rows_in};
+use pen::{Form, LINE_SIZE, Pen};
+use refusing::{Replied, Undrawn};
 use rendering::render;
-use rules::{Columns, Design, MOST_COLUMNS, MOST_ROWS, Rows, Shape};
+use rules::{Design, MOST_COLUMNS, MOST_ROWS, Refusal, Shape};
 use sketching::sketch;
+use std::fmt;
 use std::io::Stdout;
 use taking::{say_unread, take_all};
-use words::next_of;
 
 // More bytes than a header, a design and a plan's text have.
 const INPUT_SIZE: usize = 8_192;
 
-// Draws rows, as text or as SVG.
-fn draw_rows(
-    out: Stdout,
-    line: &mut [u8],
-    svg: bool,
+// A design and rows that the checker has passed, and the plan's box, which is no larger than the largest chip.
+#[derive(Clone, Copy)]
+struct Stored {
     design: Design,
-    rows: &[u8],
+    rows: [u8; ROWS_SIZE],
     size: Shape,
-) -> bool
-    requires { Drawable design rows.now }
-{
-    if size.w.0 > MOST_COLUMNS {
-        return unreadable(out, line);
-    }
-    if size.h.0 > MOST_ROWS {
-        return unreadable(out, line);
-    }
-    if svg {
-        return render(out, line, design, rows, size);
-    }
-    sketch(out, line, design, rows, size)
+    ghost drawable: { Drawable design rows },
+    ghost wide: { size.w.0 ≤ most_columns },
+    ghost high: { size.h.0 ≤ most_rows },
 }
 
-// Draws rows if the checker passes them.
-fn draw_passed(
-    out: Stdout,
-    line: &mut [u8],
-    svg: bool,
-    design: Design,
-    rows: &[u8],
-    size: Shape,
-) -> bool {
-    let reply = check(design, rows);
-    if let Err(e) = reply {
-        return refuse_by(out, line, b"the checker", e);
+// Somebody refuses.
+fn refused(who: &'static str, e: Refusal) -> Undrawn {
+    Undrawn::Refused {
+        who,
+        reply: Replied::from(e),
     }
-    draw_rows(out, line, svg, design, rows, size)
 }
 
-// Lends stored rows as bytes.
-fn draw_stored(
-    out: Stdout,
-    line: &mut [u8],
-    svg: bool,
-    design: Design,
-    rows: &[u8; ROWS_SIZE],
-    size: Shape,
-) -> bool {
-    let bytes: &[u8] = rows;
-    draw_passed(out, line, svg, design, bytes, size)
+// What can be drawn, if the checker passes the rows.
+fn judged(design: Design, rows: [u8; ROWS_SIZE], size: Shape) -> Result<Stored, Undrawn> {
+    if let Err(e) = check(design, &rows) {
+        return Err(refused("the checker", e));
+    }
+    if size.w.0 > MOST_COLUMNS || size.h.0 > MOST_ROWS {
+        return Err(Undrawn::Unreadable);
+    }
+    Ok(Stored { design, rows, size })
 }
 
-// Draws the rows of a plan whose box is of this size.
-fn draw_plan(
-    out: Stdout,
-    line: &mut [u8],
-    svg: bool,
-    bytes: &[u8],
-    lines: &[u8],
-    size: Shape,
-) -> bool {
+// What can be drawn of a design by the plan's text, if the plan is done.
+fn planned(bytes: &[u8], plan: Result<Shape, Replied>, lines: &[u8]) -> Result<Stored, Undrawn> {
+    let size = plan.map_err(|reply| Undrawn::Refused { who: "plan", reply })?;
     let handed = read(bytes);
-    let reply = handed.reply;
-    let design = handed.design;
-    if let Err(e) = reply {
-        return refuse_by(out, line, b"read", e);
+    if let Err(e) = handed.reply {
+        return Err(refused("read", e));
     }
-    let mut rows = [0u8; ROWS_SIZE];
-    if !rows_in(lines, design.modules, &mut rows) {
-        return unreadable(out, line);
-    }
-    draw_stored(out, line, svg, design, &rows, size)
+    let rows = rows_in(lines, handed.design.modules).ok_or(Undrawn::Unreadable)?;
+    judged(handed.design, rows, size)
 }
 
-// Draws a design by the plan's text, if the plan is done.
-fn draw_text(out: Stdout, line: &mut [u8], svg: bool, bytes: &[u8], text: &[u8]) -> bool {
-    let end = next_of(b'\n', text, 0);
-    if end == text.len() {
-        return unreadable(out, line);
-    }
-    let plan = plan_in(&text[0..end]);
-    if !plan.good {
-        return unreadable(out, line);
-    }
-    if plan.number != 0 {
-        return refuse(out, line, b"plan", plan.number, plan.first);
-    }
-    let size = Shape {
-        w: Columns(plan.first),
-        h: Rows(plan.second),
+// How to draw, and what, as the input says.
+fn asked_in(input: &[u8]) -> Result<(Format, Stored), Undrawn> {
+    let parts = parts_in(input).ok_or(Undrawn::Unreadable)?;
+    let stored = planned(parts.design, parts.plan, parts.lines)?;
+    Ok((parts.format, stored))
+}
+
+// Draws what has passed.
+fn draw_stored(out: Stdout, line: &mut [u8], format: Format, stored: &Stored) -> fmt::Result {
+    let plan = Floorplan {
+        design: &stored.design,
+        rows: &stored.rows,
+        size: stored.size,
     };
-    draw_plan(out, line, svg, bytes, &text[end + 1..], size)
+    match format {
+        Format::Text => sketch(out, line, plan),
+        Format::Svg => render(out, line, plan),
+    }
 }
 
-// Draws what the input says, and says whether every line was written.
-pub fn draw(out: Stdout, input: &[u8], line: &mut [u8]) -> bool {
-    let end = next_of(b'\n', input, 0);
-    if end == input.len() {
-        return unreadable(out, line);
+// Draws what the input says, or says why nothing is drawn; an error where a line could not be written.
+pub fn draw(out: Stdout, input: &[u8], line: &mut [u8]) -> fmt::Result {
+    match asked_in(input) {
+        Ok((format, stored)) => draw_stored(out, line, format, &stored),
+        Err(why) => Pen::new(Form::Text, Some(out), line).write_line(why),
     }
-    let header = header_in(&input[0..end]);
-    if !header.good {
-        return unreadable(out, line);
-    }
-    let rest = &input[end + 1..];
-    let length = header.length;
-    if rest.len() < length {
-        return unreadable(out, line);
-    }
-    draw_text(out, line, header.svg, &rest[0..length], &rest[length..])
 }
 
 // Draws what standard input says. Where a line could not be written, the drawing lacks its last line, and that is said.
@@ -141,7 +101,7 @@ pub fn run_draw(rt: HostRuntime) {
     if let Some(why) = taken.failed {
         say_unread(&rt, why);
     }
-    if !draw(rt.stdout(), &input[..taken.count], &mut line) {
+    if draw(rt.stdout(), &input[..taken.count], &mut line).is_err() {
         let _ = rt.eprintln("draw: a line could not be written");
     }
 }

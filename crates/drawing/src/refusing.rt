@@ -1,109 +1,75 @@
-// Why nothing is drawn, in words. Each function says whether the line was written.
-ghost use Rattle.std.specs.Prelude.{◌≤◌, length};
-
-use pen::{Pen, write, write_words};
+// Why nothing is drawn, in words.
 use replies::number_of;
 use rules::Refusal;
-use std::io::Stdout;
-use telling::{put_byte, put_number, put_word};
+use std::fmt;
+use std::fmt::Write;
 
-// A pen for text.
-fn new_pen(out: Stdout) -> Pen {
-    Pen {
-        svg: false,
-        dry: false,
-        y: 0,
-        cuts: 0,
-        fine: true,
-        out,
+// A reply's number, and the place that stands beside it.
+#[derive(Clone, Copy)]
+pub struct Replied {
+    pub number: usize,
+    pub value: usize,
+}
+
+// Why there is nothing to draw: the input is no header, design and plan, or somebody refuses.
+#[derive(Clone, Copy)]
+pub enum Undrawn {
+    Unreadable,
+    Refused { who: &'static str, reply: Replied },
+}
+
+impl From<Refusal> for Replied {
+    fn from(e: Refusal) -> Replied {
+        let said = number_of(e);
+        Replied {
+            number: said.0,
+            value: said.1,
+        }
     }
 }
 
-// The input is no header, design and plan.
-pub fn unreadable(out: Stdout, line: &mut [u8]) -> bool {
-    write_words(
-        new_pen(out),
-        line,
-        b"not read: the input is no whole header, design and plan\n",
-    )
-    .fine
-}
-
-// Puts where a reply with this number finds its fault.
-fn put_place(out: &mut [u8], at: usize, number: usize, value: usize) -> usize
-    requires { at ≤ length out.old }
-    ensures { result ≤ length out.new }
-{
+// What a reply with this number says.
+// stays: numbers for refusals, here and below: the plan program's text has them (docs/FORMAT.md), and may have any number
+fn cause_of(number: usize) -> &'static str {
     match number {
-        1..=7 => {
-            let next = put_word(out, at, b" at byte");
-            put_number(out, next, b' ', value)
-        }
-        12 | 13 => {
-            let next = put_word(out, at, b" for module");
-            put_number(out, next, b' ', value)
-        }
-        14 => {
-            let next = put_word(out, at, b" for token");
-            put_number(out, next, b' ', value)
-        }
-        _ => at,
+        1 => "the bytes end inside or before a number",
+        2 => "a number is not written in its shortest form, or is too large",
+        3 => "the form number is not 1",
+        4 => "a value breaks the limits",
+        5 => "a token names no module, or one that stands already, or cuts too few things",
+        6 => "the tokens leave more than one thing standing",
+        7 => "bytes follow the last token",
+        8 => "the design is too large for the plan program",
+        10 => "there is no placement",
+        12 => "its region is not on the chip",
+        13 => "its region is short of its need",
+        14 => "the cut is not kept",
+        _ => "the design can't be drawn",
     }
 }
 
-// Puts what a reply with this number says.
-fn put_cause(out: &mut [u8], at: usize, number: usize) -> usize
-    requires { at ≤ length out.old }
-    ensures { result ≤ length out.new }
-{
-    match number {
-        1 => put_word(out, at, b"the bytes end inside or before a number"),
-        2 => put_word(
-            out,
-            at,
-            b"a number is not written in its shortest form, or is too large",
-        ),
-        3 => put_word(out, at, b"the form number is not 1"),
-        4 => put_word(out, at, b"a value breaks the limits"),
-        5 => put_word(
-            out,
-            at,
-            b"a token names no module, or one that stands already, or cuts too few things",
-        ),
-        6 => put_word(out, at, b"the tokens leave more than one thing standing"),
-        7 => put_word(out, at, b"bytes follow the last token"),
-        8 => put_word(out, at, b"the design is too large for the plan program"),
-        10 => put_word(out, at, b"there is no placement"),
-        12 => put_word(out, at, b"its region is not on the chip"),
-        13 => put_word(out, at, b"its region is short of its need"),
-        14 => put_word(out, at, b"the cut is not kept"),
-        _ => put_word(out, at, b"the design can't be drawn"),
+// Its number, where it finds its fault, and its cause.
+impl fmt::Display for Replied {
+    fn fmt<W: Write>(&self, f: &mut fmt::Formatter<W>) -> fmt::Result {
+        let (number, value) = (self.number, self.value);
+        let cause = cause_of(number);
+        match number {
+            1..=7 => write!(f, "{number} at byte {value}: {cause}"),
+            12 | 13 => write!(f, "{number} for module {value}: {cause}"),
+            14 => write!(f, "{number} for token {value}: {cause}"),
+            _ => write!(f, "{number}: {cause}"),
+        }
     }
 }
 
-// Puts a reply: its number, its place and its cause.
-fn put_reply(out: &mut [u8], at: usize, number: usize, value: usize) -> usize
-    requires { at ≤ length out.old }
-    ensures { result ≤ length out.new }
-{
-    let next = put_number(out, at, b' ', number);
-    let next = put_place(out, next, number, value);
-    let next = put_word(out, next, b": ");
-    put_cause(out, next, number)
-}
-
-// Somebody replies with a number, and a place beside it.
-pub fn refuse(out: Stdout, line: &mut [u8], who: &[u8], number: usize, value: usize) -> bool {
-    let at = put_word(line, 0, b"not drawn: ");
-    let at = put_word(line, at, who);
-    let at = put_word(line, at, b" replies");
-    let at = put_reply(line, at, number, value);
-    let at = put_byte(line, at, b'\n');
-    write(new_pen(out), line, at).fine
-}
-
-// Somebody refuses.
-pub fn refuse_by(out: Stdout, line: &mut [u8], who: &[u8], e: Refusal) -> bool {
-    let said = number_of(e);
-    refuse(out, line, who, said.0, said.1)
+impl fmt::Display for Undrawn {
+    fn fmt<W: Write>(&self, f: &mut fmt::Formatter<W>) -> fmt::Result {
+        match self {
+            Undrawn::Unreadable => write!(
+                f,
+                "not read: the input is no whole header, design and plan"
+            ),
+            Undrawn::Refused { who, reply } => write!(f, "not drawn: {who} replies {reply}"),
+        }
+    }
 }

@@ -64,7 +64,10 @@ impl<'a> Pen<'a> {
         match self.form {
             Form::Text => self.write_line(name),
             Form::Svg { y } => {
-                write!(self.line, "<text x=\"{NAME_LEFT}\" y=\"{y}\" font-weight=\"bold\">{name}")?;
+                write!(
+                    self.line,
+                    "<text x=\"{NAME_LEFT}\" y=\"{y}\" font-weight=\"bold\">{name}"
+                )?;
                 self.end_words(y)
             }
         }

@@ -7,90 +7,47 @@ mod frame;
 mod legend;
 mod places;
 mod regions;
+mod styles;
 
-ghost use Rattle.std.specs.Prelude.{◌≤◌};
-ghost use Rattle.rules.specs.Design.{most_columns, most_rows};
-ghost use Rattle.blocks.specs.Cut.{Within};
-ghost use Rattle.blocks.specs.Drawable.{Drawable};
-
+use blocks::Floorplan;
 use chip::draw_chip;
 use describing::say_regions;
 use frame::{draw_axes, draw_titles, end_sheet, start_sheet};
 use legend::draw_legend;
-use pen::Pen;
+use pen::{Form, Pen};
 use places::words_top;
 use regions::{draw_box, draw_regions};
-use rules::{Chip, Design, Shape};
+use std::fmt;
 use std::io::Stdout;
 
-// A pen at a height; a dry one only measures.
-fn pen_at(out: Stdout, y: usize, dry: bool) -> Pen {
-    Pen {
-        svg: true,
-        dry,
-        y,
-        cuts: 0,
-        fine: true,
-        out,
-    }
-}
-
-// Draws the chip on a sheet that goes down to `bottom`.
-fn draw_ground(
-    pen: Pen,
-    line: &mut [u8],
-    chip: Chip,
-    modules: usize,
-    size: Shape,
-    bottom: usize,
-) -> Pen
-    requires { Within chip }
-{
-    let pen = start_sheet(pen, line, chip.width, bottom);
-    let pen = draw_titles(pen, line, chip, modules, size);
-    let pen = draw_chip(pen, line, chip);
-    draw_axes(pen, line, chip)
-}
-
-// Draws the box, and what everything means.
-fn draw_box_and_legend(pen: Pen, line: &mut [u8], chip: Chip, size: Shape) -> Pen
-    requires { Within chip × (size.w.0 ≤ most_columns) × (size.h.0 ≤ most_rows) }
-{
-    let pen = draw_box(pen, line, chip.height, size);
-    draw_legend(pen, line, chip.width)
-}
-
 // Draws the sheet but for the words about the regions, which go down to `bottom`.
-fn draw_sheet(
-    pen: Pen,
-    line: &mut [u8],
-    design: Design,
-    rows: &[u8],
-    size: Shape,
-    bottom: usize,
-) -> Pen
-    requires { Drawable design rows.now × (size.w.0 ≤ most_columns) × (size.h.0 ≤ most_rows) }
-{
-    let chip = design.chip;
-    let pen = draw_ground(pen, line, chip, design.modules, size, bottom);
-    let pen = draw_regions(pen, line, design, rows);
-    draw_box_and_legend(pen, line, chip, size)
+fn draw_sheet(pen: &mut Pen, plan: Floorplan, bottom: usize) -> fmt::Result {
+    let grid = plan.grid();
+    start_sheet(pen, grid, bottom)?;
+    draw_titles(pen, plan)?;
+    draw_chip(pen, grid)?;
+    draw_axes(pen, grid)?;
+    draw_regions(pen, plan)?;
+    draw_box(pen, plan)?;
+    draw_legend(pen, grid)
 }
 
 // How far down the words about the regions go that begin at a height: they are said with a dry pen.
-fn bottom_of(out: Stdout, line: &mut [u8], design: Design, rows: &[u8], top: usize) -> usize
-    requires { Drawable design rows.now }
-{
-    say_regions(pen_at(out, top, true), line, design, rows).y
+fn bottom_of(line: &mut [u8], plan: Floorplan, top: usize) -> Result<usize, fmt::Error> {
+    let mut pen = Pen::new(Form::Svg { y: top }, None, line);
+    say_regions(&mut pen, plan)?;
+    match pen.form {
+        Form::Svg { y } => Ok(y),
+        Form::Text => Ok(top),
+    }
 }
 
-// Writes a floorplan as an SVG drawing, and says whether every line was written.
-pub fn render(out: Stdout, line: &mut [u8], design: Design, rows: &[u8], size: Shape) -> bool
-    requires { Drawable design rows.now × (size.w.0 ≤ most_columns) × (size.h.0 ≤ most_rows) }
-{
-    let top = words_top(design.chip.height);
-    let bottom = bottom_of(out, line, design, rows, top);
-    let pen = draw_sheet(pen_at(out, top, false), line, design, rows, size, bottom);
-    let pen = say_regions(pen, line, design, rows);
-    end_sheet(pen, line).fine
+// Writes a floorplan as an SVG drawing.
+pub fn render(out: Stdout, line: &mut [u8], plan: Floorplan) -> fmt::Result {
+    let top = words_top(plan.grid());
+    let bottom = bottom_of(line, plan, top)?;
+    let mut pen = Pen::new(Form::Svg { y: top }, Some(out), line);
+    draw_sheet(&mut pen, plan, bottom)?;
+    say_regions(&mut pen, plan)?;
+    end_sheet(&mut pen)
 }

@@ -1,10 +1,10 @@
 // Where things stand on the sheet, in pixels from its upper left corner.
 ghost use Rattle.std.specs.Prelude.{◌≤◌};
-ghost use Rattle.rules.specs.Design.{most_columns, most_rows};
-ghost use Rattle.rows.specs.Row.{Bytes};
+ghost use Rattle.rules.specs.Design.{most_rows};
 ghost use Rattle.rendering.specs.Sheet.{OnSheet};
 
-use rules::{Columns, Rectangle, Rows};
+use blocks::{Grid, Region};
+use std::fmt;
 
 // A cell's side.
 pub const CELL: usize = 28;
@@ -35,6 +35,14 @@ pub struct Area {
     pub h: usize,
 }
 
+// As the attributes of an element.
+impl fmt::Display for Area {
+    fn fmt<W: fmt::Write>(&self, f: &mut fmt::Formatter<W>) -> fmt::Result {
+        let Area { x, y, w, h } = *self;
+        write!(f, "x=\"{x}\" y=\"{y}\" width=\"{w}\" height=\"{h}\"")
+    }
+}
+
 // Where a column begins from the left.
 pub fn column_left(x: usize) -> usize
     requires { x ≤ 256 }
@@ -44,64 +52,46 @@ pub fn column_left(x: usize) -> usize
 }
 
 // How many rows of the chip lie above those below `far`.
-fn rows_above(height: Rows, far: usize) -> usize
-    requires { height.0 ≤ most_rows }
+fn rows_above(grid: Grid, far: usize) -> usize
     ensures { result ≤ most_rows }
 {
-    if height.0 < far {
-        return 0;
-    }
-    height.0 - far
+    grid.height().saturating_sub(far)
 }
 
 // Where the rows below `far` begin from above.
-pub fn rows_top(height: Rows, far: usize) -> usize
-    requires { height.0 ≤ most_rows }
+pub fn rows_top(grid: Grid, far: usize) -> usize
     ensures { (88 ≤ result) × (result ≤ 8192) }
 {
-    TOP + CELL * rows_above(height, far)
+    TOP + CELL * rows_above(grid, far)
 }
 
-// The area of a rectangle of the chip.
-pub fn area_of(height: Rows, r: Rectangle) -> Area
-    requires { (height.0 ≤ most_rows) × Bytes r }
+// The area of a region of the chip.
+pub fn area_of(grid: Grid, r: Region) -> Area
     ensures { OnSheet result }
 {
     Area {
-        x: column_left(r.corner.x.0),
-        y: rows_top(height, r.corner.y.0 + r.shape.h.0),
-        w: CELL * r.shape.w.0,
-        h: CELL * r.shape.h.0,
+        x: column_left(r.left()),
+        y: rows_top(grid, r.top()),
+        w: CELL * r.rectangle.shape.w.0,
+        h: CELL * r.rectangle.shape.h.0,
     }
 }
 
 // Where the legend begins from the left.
-pub fn legend_left(width: Columns) -> usize
-    requires { width.0 ≤ most_columns }
+pub fn legend_left(grid: Grid) -> usize
     ensures { result ≤ 8300 }
 {
-    column_left(width.0) + MARGIN
+    column_left(grid.width()) + MARGIN
 }
 
 // Where the words about the regions begin from above.
-pub fn words_top(height: Rows) -> usize
-    requires { height.0 ≤ most_rows }
+pub fn words_top(grid: Grid) -> usize
     ensures { result ≤ 8192 }
 {
-    let chip = CELL * height.0 + AXES;
-    if chip < LEAST {
-        return TOP + LEAST;
-    }
-    TOP + chip
+    TOP + (CELL * grid.height() + AXES).max(LEAST)
 }
 
 // How wide the sheet is.
-pub fn sheet_width(width: Columns) -> usize
-    requires { width.0 ≤ most_columns }
-{
-    let wide = legend_left(width) + LEGEND;
-    if wide < LEAST_WIDTH {
-        return LEAST_WIDTH;
-    }
-    wide
+pub fn sheet_width(grid: Grid) -> usize {
+    (legend_left(grid) + LEGEND).max(LEAST_WIDTH)
 }

@@ -1,58 +1,32 @@
 // A floorplan as text: a row to a line, from above, with a sign for the module that has each cell.
 #![tactic(auto)]
 
-ghost use Rattle.std.specs.Prelude.{◌*◌, ◌≤◌, ◌<◌, length};
-ghost use Rattle.rules.specs.Design.{most_columns};
-ghost use Rattle.rows.specs.Row.{Bytes};
-ghost use Rattle.blocks.specs.Cut.{Within};
-ghost use Rattle.blocks.specs.Drawable.{Drawable};
+ghost use Rattle.std.specs.Prelude.{◌≡◌, ◌<◌};
+ghost use Rattle.rules.specs.Chip.{rectangle};
 
-use blocks::{kind_at, meets};
-use describing::{letter_of, put_amount, say_regions, sign_of};
-use pen::{Pen, put_figure, write};
-use rows::rectangle_at;
-use rules::{Chip, Columns, Corner, Design, Rectangle, Rows, Shape};
+use blocks::{Floorplan, Grid, Kind, Region};
+use describing::{Amount, letter_of, say_regions, sign_of};
+use pen::{Form, Pen};
+use rules::{Columns, Corner, Rectangle, Rows, Shape};
+use std::fmt;
+use std::fmt::{Display, Write};
 use std::io::Stdout;
-use telling::{put_byte, put_number, put_word};
 
-const NO_MODULE: u8 = b'.';
+const NO_MODULE: char = '.';
 
-// How many digits a number of rows has.
-fn digits_of(n: usize) -> usize
-    ensures { result ≤ 3 }
-{
-    match n {
+// How many digits the number of the highest row has.
+fn digits_of(grid: Grid) -> usize {
+    match grid.height() - 1 {
         0..=9 => 1,
         10..=99 => 2,
         _ => 3,
     }
 }
 
-// Puts so many spaces.
-fn put_spaces(out: &mut [u8], at: usize, n: usize) -> usize
-    requires { at ≤ length out.old }
-    ensures { result ≤ length out.new }
-{
-    let mut next = at;
-    for _ in 0..n {
-        next = put_byte(out, next, b' ');
-    }
-    next
-}
-
-// Puts a sign, a space before it.
-fn put_sign(out: &mut [u8], at: usize, sign: u8) -> usize
-    requires { at ≤ length out.old }
-    ensures { result ≤ length out.new }
-{
-    let next = put_byte(out, at, b' ');
-    put_byte(out, next, sign)
-}
-
 // The cell in column x and row y.
-fn cell(x: usize, y: usize) -> Rectangle
+fn cell(x: usize, y: usize) -> Region
     requires { (x < 256) × (y < 256) }
-    ensures { Bytes result }
+    ensures { result.rectangle ≡ rectangle x y 1 1 }
 {
     let corner = Corner {
         x: Columns(x),
@@ -62,127 +36,81 @@ fn cell(x: usize, y: usize) -> Rectangle
         w: Columns(1),
         h: Rows(1),
     };
-    Rectangle { corner, shape }
+    Region {
+        rectangle: Rectangle { corner, shape },
+    }
 }
 
 // The sign of the module that has a cell.
-fn sign_at(modules: usize, rows: &[u8], cell: Rectangle) -> u8
-    requires { (4 * modules ≤ length rows.now) × Bytes cell }
-{
-    for k in 0..modules {
-        if meets(rectangle_at(rows, k), cell) {
-            return sign_of(k);
+fn sign_at(plan: Floorplan, cell: Region) -> char {
+    (0..plan.modules())
+        .find(|k| plan.region(*k).meets(cell))
+        .map_or(NO_MODULE, sign_of)
+}
+
+// Row y: its number, as wide as that of the highest row, and a sign for each cell.
+#[derive(Clone, Copy)]
+struct Row<'a> {
+    plan: Floorplan<'a>,
+    y: usize,
+    ghost on_chip: { y < 256 },
+}
+
+impl<'a> Display for Row<'a> {
+    fn fmt<W: Write>(&self, f: &mut fmt::Formatter<W>) -> fmt::Result {
+        let grid = self.plan.grid();
+        let wide = digits_of(grid);
+        write!(f, "{:wide$} ", self.y)?;
+        for x in 0..grid.width() {
+            let sign = sign_at(self.plan, cell(x, self.y));
+            write!(f, " {sign}")?;
         }
+        Ok(())
     }
-    NO_MODULE
 }
 
-// Puts the number of row y, as wide as that of the highest row is, and two spaces.
-fn put_row_number(out: &mut [u8], height: usize, y: usize) -> usize
-    requires { y < height }
-    ensures { result ≤ length out.new }
-{
-    let wide = digits_of(height - 1);
-    let own = digits_of(y);
-    let short = if own < wide { wide - own } else { 0 };
-    let at = put_spaces(out, 0, short);
-    let at = put_figure(out, at, y);
-    put_byte(out, at, b' ')
-}
+// The kinds of the columns, each below its column.
+#[derive(Clone, Copy)]
+struct Kinds<'a>(Grid<'a>);
 
-// Writes row y: its number, and a sign for each cell.
-fn write_row(pen: Pen, line: &mut [u8], design: Design, rows: &[u8], y: usize) -> Pen
-    requires { Drawable design rows.now × (y < design.chip.height.0) }
-{
-    let width = design.chip.width.0;
-    let modules = design.modules;
-    let mut at = put_row_number(line, design.chip.height.0, y);
-    for x in 0..width {
-        at = put_sign(line, at, sign_at(modules, rows, cell(x, y)));
+impl<'a> Display for Kinds<'a> {
+    fn fmt<W: Write>(&self, f: &mut fmt::Formatter<W>) -> fmt::Result {
+        let wide = digits_of(self.0);
+        write!(f, "{:wide$} ", "")?;
+        for kind in self.0.kinds() {
+            let letter = letter_of(Kind::from(*kind));
+            write!(f, " {letter}")?;
+        }
+        Ok(())
     }
-    let n = put_byte(line, at, b'\n');
-    write(pen, line, n)
 }
 
 // Writes the rows, from above.
-fn write_rows(pen: Pen, line: &mut [u8], design: Design, rows: &[u8]) -> Pen
-    requires { Drawable design rows.now }
-{
-    let height = design.chip.height.0;
-    let mut pen = pen;
-    for i in 0..height {
-        pen = write_row(pen, line, design, rows, height - 1 - i);
+fn write_rows(pen: &mut Pen, plan: Floorplan) -> fmt::Result {
+    for y in (0..plan.grid().height()).rev() {
+        pen.write_line(Row { plan, y })?;
     }
-    pen
-}
-
-// Writes the kinds of the columns, each below its column.
-fn write_kinds(pen: Pen, line: &mut [u8], chip: Chip) -> Pen
-    requires { Within chip × (0 < chip.height.0) }
-{
-    let width = chip.width.0;
-    let wide = digits_of(chip.height.0 - 1);
-    let mut at = put_spaces(line, 0, wide + 1);
-    for x in 0..width {
-        at = put_sign(line, at, letter_of(kind_at(chip, x)));
-    }
-    let n = put_byte(line, at, b'\n');
-    write(pen, line, n)
-}
-
-// Writes how large the box is.
-fn write_box(pen: Pen, line: &mut [u8], size: Shape) -> Pen {
-    let at = put_word(line, 0, b"\nbox from the lower left corner:");
-    let at = put_amount(line, at, size.w.0, b"column");
-    let at = put_byte(line, at, b',');
-    let at = put_amount(line, at, size.h.0, b"row");
-    let at = put_byte(line, at, b'\n');
-    write(pen, line, at)
-}
-
-// Writes how high the blocks are.
-fn write_blocks(pen: Pen, line: &mut [u8], block: Rows) -> Pen {
-    let at = put_word(line, 0, b"RAM and multiplier blocks:");
-    let at = put_amount(line, at, block.0, b"row");
-    let at = put_word(line, at, b" each, from row 0\n\n");
-    write(pen, line, at)
-}
-
-// Writes the last line, by which a reader sees that the drawing is whole.
-fn write_end(pen: Pen, line: &mut [u8], modules: usize) -> Pen {
-    let at = put_word(line, 0, b"\ndrawn:");
-    let at = put_amount(line, at, modules, b"module");
-    let at = put_word(line, at, b", cuts of blocks:");
-    let at = put_number(line, at, b' ', pen.cuts);
-    let at = put_byte(line, at, b'\n');
-    write(pen, line, at)
+    Ok(())
 }
 
 // Writes the picture: rows, kinds, and how large the box and the blocks are.
-fn write_picture(pen: Pen, line: &mut [u8], design: Design, rows: &[u8], size: Shape) -> Pen
-    requires { Drawable design rows.now }
-{
-    let chip = design.chip;
-    let pen = write_rows(pen, line, design, rows);
-    let pen = write_kinds(pen, line, chip);
-    let pen = write_box(pen, line, size);
-    write_blocks(pen, line, chip.block)
+fn write_picture(pen: &mut Pen, plan: Floorplan) -> fmt::Result {
+    let grid = plan.grid();
+    let columns = Amount(plan.size.w.0, "column");
+    let rows = Amount(plan.size.h.0, "row");
+    let high = Amount(grid.chip.block.0, "row");
+    write_rows(pen, plan)?;
+    pen.write_line(Kinds(grid))?;
+    pen.write_line(format_args!("\nbox from the lower left corner: {columns}, {rows}"))?;
+    pen.write_line(format_args!("RAM and multiplier blocks: {high} each, from row 0\n"))
 }
 
-// Writes a floorplan as text, and says whether every line was written.
-pub fn sketch(out: Stdout, line: &mut [u8], design: Design, rows: &[u8], size: Shape) -> bool
-    requires { Drawable design rows.now }
-{
-    let pen = Pen {
-        svg: false,
-        dry: false,
-        y: 0,
-        cuts: 0,
-        fine: true,
-        out,
-    };
-    let pen = write_picture(pen, line, design, rows, size);
-    let pen = say_regions(pen, line, design, rows);
-    let pen = write_end(pen, line, design.modules);
-    pen.fine
+// Writes a floorplan as text. The last line tells a reader that the drawing is whole.
+pub fn sketch(out: Stdout, line: &mut [u8], plan: Floorplan) -> fmt::Result {
+    let mut pen = Pen::new(Form::Text, Some(out), line);
+    write_picture(&mut pen, plan)?;
+    say_regions(&mut pen, plan)?;
+    let modules = Amount(plan.modules(), "module");
+    let cuts = pen.cuts;
+    pen.write_line(format_args!("\ndrawn: {modules}, cuts of blocks: {cuts}"))
 }

@@ -1,4 +1,4 @@
--- `describing::product` meets its contract: factors that are small enough have a small product. Assumes nothing.
+-- `describing::amounts::product` meets its contract: factors that are small enough have a small product. Assumes nothing.
 use mathlib.Core.Path.{refl}
 use Prim.Native.Nat.{ℕ, ◌*◌, ◌≤◌, ◌<◌}
 use native.Mathlib.Omega.{arith}

@@ -12,6 +12,6 @@ loop-j-init c = (omega arith, c.many-many.ensures.0, refl)
 pub loop-j-preserved : goal.loop-j-preserved
 loop-j-preserved c =
     let i = c.loop-j.invariant in elim c.if-covers.branch [
-      then-covers w ↦ (omega arith, i.1, one_more _ _ _ _ _ c.block.ensures w.if-covers.ensures i.2 (omega arith))
-    | else-covers w ↦ (omega arith, i.1, one_more _ _ _ _ _ c.block.ensures w.if-covers.ensures i.2 w.held-is)
+      | then-covers w ↦ (omega arith, i.1, one_more _ _ _ _ _ c.block.ensures w.if-covers.ensures i.2 (omega arith))
+      | else-covers w ↦ (omega arith, i.1, one_more _ _ _ _ _ c.block.ensures w.if-covers.ensures i.2 w.held-is)
     ]

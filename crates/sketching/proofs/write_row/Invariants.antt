@@ -1,7 +1,0 @@
--- `sketching::write_row` meets its contract: the position stays inside the line. Assumes nothing.
-use Prim.Native.Nat.{◌≤◌}
-use lib.ListN.{length}
-use Rattle.sketching.proofs.write_row.Given as goal
-
-abbrev pub invariant-loop-x : goal.invariant-loop-x
-invariant-loop-x l = l.at ≤ length l.line
