@@ -5,6 +5,7 @@ use program::{MOST_INPUT, WORK};
 use rules::MOST_MODULES;
 use saying::{LINE_SIZE, say};
 use taking::{say_unread, take_all, write_or_say};
+use telling::Text;
 
 fn main(rt: HostRuntime) {
     let mut input = [0u8; MOST_INPUT];
@@ -17,6 +18,7 @@ fn main(rt: HostRuntime) {
     let mut work = [0u8; WORK];
     let mut rows = [0u8; 4 * MOST_MODULES];
     let mut line = [0u8; LINE_SIZE];
-    let length = say(&input[0..count], &mut work, &mut rows, &mut line);
-    write_or_say(&rt, &line[0..length]);
+    let mut line = Text::new(&mut line);
+    say(&input[0..count], &mut work, &mut rows, &mut line);
+    write_or_say(&rt, line.said());
 }

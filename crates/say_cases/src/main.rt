@@ -8,6 +8,7 @@ use program::{MOST_INPUT, WORK};
 use rules::MOST_MODULES;
 use saying::{LINE_SIZE, say};
 use taking::{say_unread, take_all, write_or_say};
+use telling::Text;
 
 const ALL_CASES: usize = 65536;
 
@@ -32,7 +33,7 @@ fn run_case(
     at: usize,
     work: &mut [u8],
     rows: &mut [u8],
-    line: &mut [u8],
+    line: &mut Text,
 ) -> usize
     requires { at + 2 ≤ length cases.now }
     ensures { (at < result) × (result ≤ length cases.now) }
@@ -41,8 +42,9 @@ fn run_case(
     let long = wide(cases[at]) + 256 * wide(cases[at + 1]);
     let rest = lesser(long, cases.len() - start);
     let taken = lesser(rest, MOST_INPUT);
-    let length = say(&cases[start..start + taken], work, rows, line);
-    write_or_say(rt, &line[0..length]);
+    line.clear();
+    say(&cases[start..start + taken], work, rows, line);
+    write_or_say(rt, line.said());
     start + rest
 }
 
@@ -52,7 +54,7 @@ fn run_cases(
     cases: &[u8],
     work: &mut [u8],
     rows: &mut [u8],
-    line: &mut [u8],
+    line: &mut Text,
 ) {
     let mut at = 0;
     while at + 2 <= cases.len() {
@@ -69,5 +71,6 @@ fn main(rt: HostRuntime) {
     let mut work = [0u8; WORK];
     let mut rows = [0u8; 4 * MOST_MODULES];
     let mut line = [0u8; LINE_SIZE];
+    let mut line = Text::new(&mut line);
     run_cases(&rt, &input[0..taken.count], &mut work, &mut rows, &mut line);
 }

@@ -3,6 +3,9 @@ use Prim.Native.Nat.{◌*◌, ◌≤◌}
 use Rattle.rules.specs.Design.{most_number}
 use Rattle.saying.proofs.none.modules_need.Given as goal
 
-abbrev pub invariant-loop-k : goal.invariant-loop-k
-invariant-loop-k l =
-    (l.clbs ≤ most_number * l.k) × (l.rams ≤ most_number * l.k) × (l.multipliers ≤ most_number * l.k)
+abbrev pub invariant-loop-need : goal.invariant-loop-need
+invariant-loop-need l = record {
+  clbs : l.sum.clbs ≤ most_number * l.need-index;
+  rams : l.sum.rams ≤ most_number * l.need-index;
+  multipliers : l.sum.multipliers ≤ most_number * l.need-index;
+}
