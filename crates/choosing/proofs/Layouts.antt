@@ -10,6 +10,8 @@ use native.Mathlib.Omega.{arith}
 use native.Mathlib.Nat.{le_refl}
 use lib.ListN.{length, get_or, set, replicate, length-set}
 use lib.Seq.{get_or-set_same, get_or-set_other}
+use Rattle.std.specs.Prelude.{Option, Some, None, IfSome, is_some}
+use Rattle.std.specs.Option.{option_map, option_and_then}
 use Rattle.rules.specs.declared.Corner.{Corner}
 use Rattle.rules.specs.declared.Shape.{Shape}
 use Rattle.rules.specs.declared.Rectangle.{Rectangle}
@@ -28,10 +30,8 @@ use Rattle.rules.proofs.Placing.{merge_left, merge_right}
 use Rattle.slots.specs.declared.Board.{Board}
 use Rattle.trees.specs.Positions.{LeftChildren}
 use Rattle.trees.proofs.Lefts.{left_child}
-use Rattle.choosing.specs.declared.Pair.{Pair}
-use Rattle.choosing.specs.declared.Pair.TheVariants.{Taken, None}
 use Rattle.choosing.specs.declared.Descent.{Descent}
-use Rattle.choosing.specs.Choose.{taken_if, pair_of, pair_in}
+use Rattle.choosing.specs.Choose.{taken_if, pair_of}
 use Rattle.choosing.specs.Descend.{nowhere, room_of, place_of, first_descent, down_leaf, given_rooms, down_pair, down_node, descended, Settled, any_suits, LaidOut, LaysOut}
 use Rattle.choosing.proofs.Steps.{cut_pair, token_settled}
 
@@ -87,33 +87,34 @@ module _ (board : Board) (slots : ℕ → Corner → ℕ → ℕ) where
   abbrev Lies : Descent → List Rectangle → Tree → Type 0
   Lies e places t = (k : ℕ) → So (has t k) → place_of places k ≡ laid W H slots t (room_of e (position t)).corner (room_of e (position t)).shape k
 
-  -- where going down these trees has come to
-  record Comes (e : Descent) (ts : List Tree) (end : Descent) : Type 0 where
-    before : So end.ok → So e.ok
-    goes : So end.ok → Each (Goes e) ts
-    lies : So end.ok → Each (Lies e end.places) ts
-    others : So end.ok → (k : ℕ) → (So (stands ts k) → ⊥) → place_of end.places k ≡ place_of e.places k
-    back : So e.ok → Each (Goes e) ts → So end.ok
+  -- going down these trees has come to an end; or one of them has a cut with no pair
+  record Went (e : Descent) (ts : List Tree) (end : Descent) : Type 0 where
+    goes : Each (Goes e) ts
+    lies : Each (Lies e end.places) ts
+    others : (k : ℕ) → (So (stands ts k) → ⊥) → place_of end.places k ≡ place_of e.places k
+
+  abbrev Comes : Descent → List Tree → Option Descent → Type 0
+  Comes e ts None = Each (Goes e) ts → ⊥
+  Comes e ts (Some end) = Went e ts end
 
   -- a leaf
-  leaf_comes : (n k : ℕ) (ts : List Tree) (e end : Descent) → Sized e → k < most_modules → (So (stands ts k) → ⊥)
+  leaf_comes : (n k : ℕ) (ts : List Tree) (e : Descent) (end : Option Descent) → Sized e → k < most_modules → (So (stands ts k) → ⊥)
       → Comes (down_leaf k n e) ts end → Comes e (leaf n k ∷ ts) end
   unfolding goes_down laid has stands
-  leaf_comes n k ts e end z h f C = record {
-    before = C.before;
-    goes = λ o. (refl, C.goes o);
-    lies = λ o. (
-      λ j s. let q = (eqb_iff j k).0 s in rw q (C.others o k f ∙ get_or-set_same e.places k (room_of e n) nowhere (omega (arith, z.places))),
-      C.lies o,
+  leaf_comes n k ts e None z h f C = λ g. C g.1
+  leaf_comes n k ts e (Some end) z h f C = record {
+    goes = (refl, C.goes);
+    lies = (
+      λ j s. let q = (eqb_iff j k).0 s in rw q (C.others k f ∙ get_or-set_same e.places k (room_of e n) nowhere (omega (arith, z.places))),
+      C.lies,
     );
-    others = λ o j g.
-        C.others o j (λ s. g ((or_iff (has (leaf n k) j) (stands ts j)).1 (inr s)))
+    others = λ j g.
+        C.others j (λ s. g ((or_iff (has (leaf n k) j) (stands ts j)).1 (inr s)))
         ∙ get_or-set_other e.places k j (room_of e n) nowhere (λ q. g ((or_iff (has (leaf n k) j) (stands ts j)).1 (inl ((eqb_iff j k).1 q))));
-    back = λ o g. C.back o g.1;
   }
 
   -- a cut: its children are given the shapes of its pair, and then stand in its place
-  module _ (n : ℕ) (d : Direction) (l r : Tree) (ts : List Tree) (e end : Descent) where
+  module _ (n : ℕ) (d : Direction) (l r : Tree) (ts : List Tree) (e : Descent) where
     c : Corner
     c = (room_of e n).corner
 
@@ -165,70 +166,60 @@ module _ (board : Board) (slots : ℕ → Corner → ℕ → ℕ) where
           ⊎_elim (λ i. a i ∙ sym (merge_left l (laid W H slots l left.corner left.shape) _ k i)) (λ i. b i ∙ sym (merge_right l r (laid W H slots l left.corner left.shape) _ k apart i))
           ((or_iff (has l k) (has r k)).0 s)
 
-      pair_comes : Sized e → position l < position r → position r < most_tokens → Falls (position l) ts → So (has_pair W H d L R c box)
-          → Comes (given_rooms (position l) left (position r) right e) (r ∷ (l ∷ ts)) end → Comes e (cut n d l r ∷ ts) end
-      unfolding Down c box
-      pair_comes z h k f t C =
-          let on = given_left z h k in let or = given_right z k in
+      given : Descent
+      given = given_rooms (position l) left (position r) right e
+
+      pair_comes : (end : Option Descent) → Sized e → position l < position r → position r < most_tokens → Falls (position l) ts
+          → So (has_pair W H d L R c box) → Comes given (r ∷ (l ∷ ts)) end → Comes e (cut n d l r ∷ ts) end
+      unfolding Down c box given
+      pair_comes None z h k f t C = λ (g, gs). let (p, a, b) = cut_goes.0 g in C (
+        rw (given_right z k) b,
+        (rw (given_left z h k) a, each_below (Goes e) _ (position l) ts (λ u a g. rw (given_other (position u) a h) g) f gs),
+      )
+      pair_comes (Some end) z h k f t C =
+          let on = given_left z h k in let or = given_right z k in let (gr, (gl, gs)) = C.goes in let (yr, (yl, ys)) = C.lies in
           record {
-            before = C.before;
-            goes = λ o. let (gr, (gl, gs)) = C.goes o in (
-              cut_goes.1 (t, rw on at gl, rw or at gr),
-              each_below _ (Goes e) (position l) ts (λ u a g. rw (given_other (position u) a h) at g) f gs,
-            );
-            lies = λ o. let (yr, (yl, ys)) = C.lies o in (
+            goes = (cut_goes.1 (t, rw on at gl, rw or at gr), each_below _ (Goes e) (position l) ts (λ u a g. rw (given_other (position u) a h) at g) f gs);
+            lies = (
               λ j s. cut_lies (place_of end.places j) j s (λ i. rw on at (yl j i)) (λ i. rw or at (yr j i)),
               each_below _ (Lies e end.places) (position l) ts (λ u a y j s. rw (given_other (position u) a h) at (y j s)) f ys,
             );
-            others = λ o j g. C.others o j (λ s. g (rw (joined_stands n d l r ts j) at s));
-            back = λ o (g, gs). let (p, a, b) = cut_goes.0 g in C.back o (
-              rw or b,
-              (rw on a, each_below (Goes e) _ (position l) ts (λ u a g. rw (given_other (position u) a h) g) f gs),
-            );
+            others = λ j g. C.others j (λ s. g (rw (joined_stands n d l r ts j) at s));
           }
 
-      cut_comes : Sized e → position l < position r → position r < most_tokens → Falls (position l) ts
-          → Comes (down_pair d (position l) (position r) c (pair_of W H d L R c box) e) (r ∷ (l ∷ ts)) end → Comes e (cut n d l r ∷ ts) end
-      unfolding pair_of left right
-      cut_comes z h k f C = go (has_pair W H d L R c box) refl C
+      -- going on from there
+      cut_comes : (on : Descent → Option Descent) → Sized e → position l < position r → position r < most_tokens → Falls (position l) ts
+          → Comes given (r ∷ (l ∷ ts)) (on given)
+          → Comes e (cut n d l r ∷ ts) (option_and_then on (down_pair d (position l) (position r) c (pair_of W H d L R c box) e))
+      unfolding pair_of left right given
+      cut_comes on z h k f C = go (has_pair W H d L R c box) refl
         where
           go : (b : Bool) → has_pair W H d L R c box ≡ b
-              → Comes (down_pair d (position l) (position r) c (taken_if b (left_shape W H d L R c box) (right_shape W H d L R c box)) e) (r ∷ (l ∷ ts)) end
-              → Comes e (cut n d l r ∷ ts) end
-          go true t C = pair_comes z h k f t C
-          go false t C = record {
-            before = λ o. absurd_so (C.before o);
-            goes = λ o. absurd_so (C.before o);
-            lies = λ o. absurd_so (C.before o);
-            others = λ o. absurd_so (C.before o);
-            back = λ o g. absurd_so (sym t ∙ (cut_goes.0 g.0).0);
-          }
+              → Comes e (cut n d l r ∷ ts)
+              (option_and_then on (down_pair d (position l) (position r) c (taken_if b (left_shape W H d L R c box) (right_shape W H d L R c box)) e))
+          go true t = pair_comes (on given) z h k f t C
+          go false t = λ g. absurd_so (sym t ∙ (cut_goes.0 g.0).0)
 
 sized_leaf : {e : Descent} (k t : ℕ) → Sized e → Sized (down_leaf k t e)
 sized_leaf k t z = record { rooms = z.rooms; places = simp length-set z.places }
 
-sized_pair : {e : Descent} (d : Direction) (l r : ℕ) (c : Corner) (p : Pair) → Sized e → Sized (down_pair d l r c p e)
-sized_pair d l r c (Taken s o) z = record { rooms = simp length-set z.rooms; places = z.places }
-sized_pair d l r c None z = record { rooms = z.rooms; places = z.places }
-
-abbrev paired : Board → (ℕ → Corner → ℕ → ℕ) → Direction → ℕ → ℕ → ℕ → Descent → Descent
-paired board slots d l r t e = down_pair d l r (room_of e t).corner (pair_in board slots d l r (room_of e t).corner (room_of e t).shape) e
+sized_given : {e : Descent} (l r : ℕ) (a b : Rectangle) → Sized e → Sized (given_rooms l a r b e)
+sized_given l r a b z = record { rooms = simp length-set z.rooms; places = z.places }
 
 module _ (board : Board) (slots : ℕ → Corner → ℕ → ℕ) (tokens lefts : List ℕ) (m N : ℕ) (few : m ≤ most_modules) (short : N ≤ most_tokens)
     (positions : (t : ℕ) (k : Direction) (l r : Tree) (us : List Tree) → t < N → Reading m (token_in tokens) (suc t) (cut t k l r ∷ us) → get_or lefts t 0 ≡ position l) where
   -- the nodes that tokens read from the first on
   comes : {n : ℕ} {ts : List Tree} → Reading m (token_in tokens) n ts → n ≤ N → OnceAmong ts → (e : Descent) → Sized e
       → Comes board slots e ts (descended board slots tokens lefts n e)
-  unfolding descended Once W H L R c box
-  comes none_read h o e z = record { before = λ o. o; goes = λ o. tt; lies = λ o. tt; others = λ o k s. refl; back = λ o g. o }
+  unfolding descended Once W H L R c box given
+  comes none_read h o e z = record { goes = tt; lies = tt; others = λ k s. refl }
   comes (module_read {n = n} {k = k} {ts = ts} r q b f) h o e z =
       rw q (leaf_comes board slots n k ts e _ z (omega arith) f (comes r (omega arith) (λ u a. o u (there a)) (down_leaf k n e) (sized_leaf k n z)))
   comes (cut_read {n = n} {d = d} {l = l} {r = r} {ts = ts} rs q) h o e z =
       let (a, (b, f)) = falls rs in let p = last_position rs in
       rw (q, positions n d l r ts h (cut_read rs q), cut_pair board slots d (position l) n e p b refl)
-      (cut_comes board slots n d l r ts e _ (o (cut n d l r) (here whole)).2 z b (omega arith) f
-      (comes rs (omega arith) (λ u a. o u (joined_among a)) (paired board slots d (position l) (position r) n e)
-      (sized_pair d (position l) (position r) (room_of e n).corner (pair_in board slots d (position l) (position r) (room_of e n).corner (room_of e n).shape) z)))
+      (cut_comes board slots n d l r ts e (o (cut n d l r) (here whole)).2 (descended board slots tokens lefts n) z b (omega arith) f
+      (comes rs (omega arith) (λ u a. o u (joined_among a)) _ (sized_given (position l) (position r) _ _ z)))
 
 -- the first descent: the root's rectangle, and the lengths
 first_room : (n : ℕ) (s : Shape) (t : ℕ) → suc t ≡ n → n ≤ most_tokens → room_of (first_descent n s) t ≡ record { corner = corner 0 0; shape = s }
@@ -241,35 +232,43 @@ first_sized : (n : ℕ) (s : Shape) → Sized (first_descent n s)
 unfolding first_descent
 first_sized n s = record { rooms = length-set (replicate most_tokens nowhere) (n - 1) _; places = refl }
 
-first_ok : (n : ℕ) (s : Shape) → So (first_descent n s).ok
-unfolding first_descent
-first_ok n s = refl
-
 -- one tree, gone down whole
-one_comes : (board : Board) (slots : ℕ → Corner → ℕ → ℕ) (t : Tree) (c : Corner) (s : Shape) (e end : Descent) → Comes board slots e (t ∷ []) end → So e.ok
-    → room_of e (position t) ≡ record { corner = c; shape = s }
-    → (end.ok ≡ goes_down board.width.0 board.height.0 any_suits slots t c s)
-    × (So end.ok → (k : ℕ) → So (has t k) → place_of end.places k ≡ laid board.width.0 board.height.0 slots t c s k)
-unfolding W H
-one_comes board slots t c s e end C o q =
-    (same_test end.ok _ (λ u. rw q at (C.goes u).0, λ g. C.back o (rw q g, tt)), λ u k h. rw q at ((C.lies u).0 k h))
+module _ (board : Board) (slots : ℕ → Corner → ℕ → ℕ) (t : Tree) (c : Corner) (s : Shape) (e : Descent)
+    (q : room_of e (position t) ≡ record { corner = c; shape = s }) where
+  one_comes : (end : Option Descent) → Comes board slots e (t ∷ []) end
+      → (is_some end ≡ goes_down board.width.0 board.height.0 any_suits slots t c s)
+      × IfSome end (λ x. (k : ℕ) → So (has t k) → place_of x.places k ≡ laid board.width.0 board.height.0 slots t c s k)
+  unfolding W H
+  one_comes None C = (same_test false _ (λ f. absurd_so f, λ g. absurd (C (rw q g, tt))), tt)
+  one_comes (Some end) C = (sym (rw q at C.goes.0), λ k h. rw q at (C.lies.0 k h))
 
 only_part : {u t : Tree} → Among u (t ∷ []) → Part u t
 only_part (here p) = p
 only_part {u = u} {t = t} (there a) = elim a [ ]
 
+-- the places that going down has come to
+abbrev pub laid_places : Option Descent → Option (List Rectangle)
+laid_places end = option_map (λ e. e.places) end
+
 -- going down the nodes of a lawful design is going down its tree
-pub lays_out : (board : Board) (slots : ℕ → Corner → ℕ → ℕ) (d : Design) → LawfulDesign d → (lefts : List ℕ) → LeftChildren d lefts → (s : Shape) (end : Descent)
-    → end ≡ descended board slots d.tokens lefts (nodes d) (first_descent (nodes d) s)
-    → LaidOut board slots d s (record { ok = end.ok; places = end.places })
-lays_out board slots d lawful lefts L s end e =
-    let T = lawful_tree d lawful in let m = modules_within d T.limits in
-    let C = comes board slots d.tokens lefts d.modules (nodes d) m.1 (omega arith)
-    (λ t k l r us h g. left_child lawful L h (sym (last_is g))) T.reading (le_refl (nodes d)) (λ u a. once_part (only_part a) T.once)
-    (first_descent (nodes d) s) (first_sized (nodes d) s) in
-    let (a, b) = one_comes board slots (root d) (corner 0 0) s (first_descent (nodes d) s) end (rw e C) (first_ok (nodes d) s)
-    (first_room (nodes d) s (position (root d)) (last_position T.reading) (omega arith)) in
-    record { ok = a; places = λ u k h. b u k ((T.modules k).1 h) }
+module _ (board : Board) (slots : ℕ → Corner → ℕ → ℕ) (d : Design) (s : Shape) where
+  lays : (end : Option Descent) → ((k : ℕ) → k < d.modules → So (has (root d) k))
+      → is_some end ≡ goes_down board.width.0 board.height.0 any_suits slots (root d) (corner 0 0) s
+      → IfSome end (λ x. (k : ℕ) → So (has (root d) k) → place_of x.places k ≡ laid board.width.0 board.height.0 slots (root d) (corner 0 0) s k)
+      → LaidOut board slots d s (laid_places end)
+  lays None m a b = record { ok = a; places = tt }
+  lays (Some x) m a b = record { ok = a; places = λ k h. b k (m k h) }
+
+  lays_out : LawfulDesign d → (lefts : List ℕ) → LeftChildren d lefts → (end : Option Descent)
+      → end ≡ descended board slots d.tokens lefts (nodes d) (first_descent (nodes d) s) → LaidOut board slots d s (laid_places end)
+  lays_out lawful lefts L end e =
+      let T = lawful_tree d lawful in let m = modules_within d T.limits in
+      let C = comes board slots d.tokens lefts d.modules (nodes d) m.1 (omega arith)
+      (λ t k l r us h g. left_child lawful L h (sym (last_is g))) T.reading (le_refl (nodes d)) (λ u a. once_part (only_part a) T.once)
+      (first_descent (nodes d) s) (first_sized (nodes d) s) in
+      let (a, b) = one_comes board slots (root d) (corner 0 0) s (first_descent (nodes d) s)
+      (first_room (nodes d) s (position (root d)) (last_position T.reading) (omega arith)) end (rw e C) in
+      lays end (λ k h. (T.modules k).1 h) a b
 
 -- while t nodes are left of n: every corner given is one of the chip, and going down these nodes ends where going down all n does
 pub record Remains (board : Board) (slots : ℕ → Corner → ℕ → ℕ) (tokens lefts : List ℕ) (n : ℕ) (first : Descent) (t : ℕ) (e : Descent) : Type 0 where
@@ -277,19 +276,25 @@ pub record Remains (board : Board) (slots : ℕ → Corner → ℕ → ℕ) (tok
   pub same : descended board slots tokens lefts t e ≡ descended board slots tokens lefts n first
 
 module _ {board : Board} {slots : ℕ → Corner → ℕ → ℕ} {tokens lefts : List ℕ} {n : ℕ} {first e : Descent} where
-  pub one_down : {r : Descent} (t : ℕ) → 0 < t → Remains board slots tokens lefts n first t e → r ≡ down_node board slots tokens lefts (t - 1) e
+  pub one_down : {r : Descent} (t : ℕ) → 0 < t → Remains board slots tokens lefts n first t e → Some r ≡ down_node board slots tokens lefts (t - 1) e
       → Remains board slots tokens lefts n first (t - 1) r
   unfolding descended
   one_down zero h m q = absurd (omega arith)
-  one_down (suc t) h m q = let x : suc t - 1 ≡ t = omega arith in record {
-    settled = rw q (token_settled slots (token_in tokens (suc t - 1)) (get_or lefts (suc t - 1) 0) (suc t - 1) m.settled);
-    same = rw (q, x) m.same;
+  one_down {r} (suc t) h m q = let x : suc t - 1 ≡ t = omega arith in record {
+    settled = rw (← q) at (token_settled slots (token_in tokens (suc t - 1)) (get_or lefts (suc t - 1) 0) (suc t - 1) m.settled);
+    same = rw x (rw (← (rw x at q)) at m.same);
   }
 
-  -- and when none is left, of a lawful design its tree
+  -- and when none is left, or there is no going on, of a lawful design its tree
   pub all_down : {t : ℕ} {s : Shape} → t ≤ 0 → Remains board slots tokens lefts n first t e → first ≡ first_descent n s
-      → LaysOut board slots tokens lefts n s (record { ok = e.ok; places = e.places })
+      → LaysOut board slots tokens lefts n s (Some e.places)
   unfolding descended
   all_down {t} {s} h m f d w et en lf =
-      let x : t ≡ 0 = omega arith in let q : e ≡ descended board slots tokens lefts n (first_descent n s) = rw (← f) (rw x at m.same) in
-      lays_out board slots d w lefts lf s e (rw (et, en) q)
+      let x : t ≡ 0 = omega arith in lays_out board slots d s w lefts lf (Some e) (rw (et, en, ← f) (rw x at m.same))
+
+  pub none_down : {s : Shape} (t : ℕ) → 0 < t → Remains board slots tokens lefts n first t e → None ≡ down_node board slots tokens lefts (t - 1) e
+      → first ≡ first_descent n s → LaysOut board slots tokens lefts n s None
+  unfolding descended
+  none_down zero h m q f d w et en lf = absurd (omega arith)
+  none_down {s} (suc t) h m q f d w et en lf =
+      let x : suc t - 1 ≡ t = omega arith in lays_out board slots d s w lefts lf None (rw (et, en, ← f) (rw (← (rw x at q)) at m.same))

@@ -1,4 +1,5 @@
 -- That what is computed step by step is what the rules say.
+pub mod Slots
 pub mod Best
 pub mod Pairs
 pub mod Steps

@@ -2,8 +2,10 @@
 -- stands twice, so a child's rectangles are the cut's. Assumes nothing.
 use mathlib.Core.Path.{◌≡◌, refl, sym, ◌∙◌}
 use mathlib.Core.Logic.{⊎_elim, inl, inr, ◌↔◌}
-use mathlib.Core.Bool.{Bool, ◌&&◌, So}
+use mathlib.Core.Bool.{Bool, false, ◌&&◌, So}
+use mathlib.Core.List.{List}
 use Prim.Native.Nat.{ℕ}
+use Rattle.std.specs.Prelude.{Some, None}
 use Rattle.rules.specs.declared.Corner.{Corner}
 use Rattle.rules.specs.declared.Shape.{Shape}
 use Rattle.rules.specs.declared.Rectangle.{Rectangle}
@@ -15,12 +17,11 @@ use Rattle.rules.specs.Placement.{Placement}
 use Rattle.rules.specs.Choice.{beside}
 use Rattle.rules.specs.Design.{root, LawfulDesign}
 use Rattle.rules.proofs.Test.{left_shape, right_shape, has_pair, merge, goes_down, laid}
-use Rattle.rules.proofs.Searching.{and_iff, or_iff, eqb_iff, all_iff, same_test}
+use Rattle.rules.proofs.Searching.{absurd_so, and_iff, or_iff, eqb_iff, all_iff, same_test}
 use Rattle.rules.proofs.Standing.{Once}
 use Rattle.rules.proofs.Nodes.{lawful_tree}
 use Rattle.rules.proofs.Placing.{merge_left, merge_right}
 use Rattle.slots.specs.declared.Board.{Board}
-use Rattle.choosing.specs.declared.Layout.{Layout}
 use Rattle.choosing.specs.Descend.{place_of, any_suits, LaidOut}
 
 -- both tests pass, or all three
@@ -58,15 +59,19 @@ module _ (W H : ℕ) (suits : ℕ → Rectangle → Bool) (slots : ℕ → Corne
         ),
       )
 
--- of a lawful design laid out, the test of every module's place
-pub laid_suited : (board : Board) (suits : ℕ → Rectangle → Bool) (slots : ℕ → Corner → ℕ → ℕ) (d : Design) → LawfulDesign d → (s : Shape) (r : Layout)
-    → LaidOut board slots d s r
-    → goes_down board.width.0 board.height.0 suits slots (root d) (corner 0 0) s ≡ r.ok && all d.modules (λ k. suits k (place_of r.places k))
-laid_suited board suits slots d lawful s r z =
-    let T = lawful_tree d lawful in let W = board.width.0 in let H = board.height.0 in
-    let u = suited W H suits slots (root d) T.once (corner 0 0) s in
-    let a = all_iff d.modules (λ k. suits k (place_of r.places k)) in let b = and_iff r.ok (all d.modules (λ k. suits k (place_of r.places k))) in
-    same_test _ _ (
-      λ g. let (x, y) = u.0 g in let o : So r.ok = z.ok ∙ x in b.1 (o, a.1 (λ k h. rw (z.places o k h) (y k ((T.modules k).1 h)))),
-      λ g. let (o, f) = b.0 g in u.1 (sym z.ok ∙ o, λ k i. let h = (T.modules k).0 i in rw (z.places o k h) at (a.0 f k h)),
-    )
+-- of a lawful design laid out, the test of every module's place; where a cut has no pair, no test passes
+module _ (board : Board) (suits : ℕ → Rectangle → Bool) (slots : ℕ → Corner → ℕ → ℕ) (d : Design) (lawful : LawfulDesign d) (s : Shape) where
+  pub laid_suited : (ps : List Rectangle) → LaidOut board slots d s (Some ps)
+      → goes_down board.width.0 board.height.0 suits slots (root d) (corner 0 0) s ≡ all d.modules (λ k. suits k (place_of ps k))
+  laid_suited ps z =
+      let T = lawful_tree d lawful in let u = suited board.width.0 board.height.0 suits slots (root d) T.once (corner 0 0) s in
+      let a = all_iff d.modules (λ k. suits k (place_of ps k)) in
+      same_test _ _ (
+        λ g. a.1 (λ k h. rw (z.places k h) ((u.0 g).1 k ((T.modules k).1 h))),
+        λ f. u.1 (sym z.ok, λ k i. let h = (T.modules k).0 i in rw (z.places k h) at (a.0 f k h)),
+      )
+
+  pub none_suited : LaidOut board slots d s None → goes_down board.width.0 board.height.0 suits slots (root d) (corner 0 0) s ≡ false
+  none_suited z =
+      let u = suited board.width.0 board.height.0 suits slots (root d) (lawful_tree d lawful).once (corner 0 0) s in
+      same_test _ false (λ g. z.ok ∙ (u.0 g).0, λ f. absurd_so f)

@@ -1,6 +1,6 @@
 -- Going down node by node, from the root, which stands last, to the first token; a parent stands after its children.
-use Rattle.std.specs.Prelude.{◌≡◌, Bool, true, false, List, ℕ, zero, suc, ◌+◌, ◌-◌, ◌<◌, ltb, get_or, set, replicate}
-use Rattle.std.proofs.Math.Bool.{So}
+use Rattle.std.specs.Prelude.{◌≡◌, Bool, true, false, List, ℕ, zero, suc, ◌+◌, ◌-◌, ◌<◌, ltb, get_or, set, replicate, Option, Some, None, IfSome, is_some}
+use Rattle.std.specs.Option.{option_and_then}
 use Rattle.rules.specs.declared.Corner.{Corner}
 use Rattle.rules.specs.declared.Shape.{Shape}
 use Rattle.rules.specs.declared.Rectangle.{Rectangle}
@@ -16,9 +16,7 @@ use Rattle.slots.specs.declared.Board.{Board}
 use Rattle.slots.specs.Lent.{OnBoard}
 use Rattle.trees.specs.Positions.{LeftChildren}
 use Rattle.choosing.specs.declared.Pair.{Pair}
-use Rattle.choosing.specs.declared.Pair.TheVariants.{Taken, None}
 use Rattle.choosing.specs.declared.Descent.{Descent}
-use Rattle.choosing.specs.declared.Layout.{Layout}
 use Rattle.choosing.specs.Choose.{pair_in}
 
 -- no rectangle yet; the rectangle that a node has been given, and that a module has
@@ -34,50 +32,45 @@ place_of places k = get_or places k nowhere
 -- the root of n nodes has its shape at (0, 0)
 unfoldable pub first_descent : ℕ → Shape → Descent
 first_descent n s = record {
-  ok = true;
   rooms = set (replicate most_tokens nowhere) (n - 1) (record { corner = corner 0 0; shape = s });
   places = replicate most_modules nowhere;
 }
 
--- a cut has no pair, or a token is none: nothing more is given
-abbrev pub stopped_at : Descent → Descent
-stopped_at e = record { ok = false; rooms = e.rooms; places = e.places }
-
 -- "A leaf's rectangle is its shape at its corner."
 abbrev pub down_leaf : ℕ → ℕ → Descent → Descent
-down_leaf k t e = record { ok = e.ok; rooms = e.rooms; places = set e.places k (room_of e t) }
+down_leaf k t e = record { rooms = e.rooms; places = set e.places k (room_of e t) }
 
 -- two nodes get their rectangles: the children of a cut, at positions l and r, those of its pair
 abbrev pub given_rooms : ℕ → Rectangle → ℕ → Rectangle → Descent → Descent
-given_rooms l a r b e = record { ok = e.ok; rooms = set (set e.rooms l a) r b; places = e.places }
+given_rooms l a r b e = record { rooms = set (set e.rooms l a) r b; places = e.places }
 
-abbrev pub down_pair : Direction → ℕ → ℕ → Corner → Pair → Descent → Descent
-down_pair d l r c (Taken s o) e =
-    given_rooms l (record { corner = c; shape = s }) r (record { corner = beside d c s; shape = o }) e
-down_pair d l r c None e = stopped_at e
+abbrev pub down_pair : Direction → ℕ → ℕ → Corner → Option Pair → Descent → Option Descent
+down_pair d l r c (Some p) e =
+    Some (given_rooms l (record { corner = c; shape = p.left }) r (record { corner = beside d c p.left; shape = p.right }) e)
+down_pair d l r c None e = None
 
 -- the right child of the cut at position t stands just before it, its left child, at position l, before that
-unfoldable pub down_cut : Board → (ℕ → Corner → ℕ → ℕ) → Direction → ℕ → ℕ → Descent → Descent
+unfoldable pub down_cut : Board → (ℕ → Corner → ℕ → ℕ) → Direction → ℕ → ℕ → Descent → Option Descent
 down_cut board slots d l t e =
     let c = (room_of e t).corner in
     elim (ltb (l + 1) t) [
       | true ↦ down_pair d l (t - 1) c (pair_in board slots d l (t - 1) c (room_of e t).shape) e
-      | false ↦ stopped_at e
+      | false ↦ None
     ]
 
--- going down at node t, and at the nodes t - 1, .., 0
-abbrev pub down_token : Board → (ℕ → Corner → ℕ → ℕ) → Token → ℕ → ℕ → Descent → Descent
+-- going down at node t, and at the nodes t - 1, .., 0: a cut may have no pair, or a token be none
+abbrev pub down_token : Board → (ℕ → Corner → ℕ → ℕ) → Token → ℕ → ℕ → Descent → Option Descent
 down_token board slots (Cut d) l t e = down_cut board slots d l t e
-down_token board slots (Module k) l t e = down_leaf k t e
-down_token board slots Beyond l t e = stopped_at e
+down_token board slots (Module k) l t e = Some (down_leaf k t e)
+down_token board slots Beyond l t e = None
 
-abbrev pub down_node : Board → (ℕ → Corner → ℕ → ℕ) → List ℕ → List ℕ → ℕ → Descent → Descent
+abbrev pub down_node : Board → (ℕ → Corner → ℕ → ℕ) → List ℕ → List ℕ → ℕ → Descent → Option Descent
 down_node board slots tokens lefts t e = down_token board slots (token_in tokens t) (get_or lefts t 0) t e
 
-unfoldable pub descended : Board → (ℕ → Corner → ℕ → ℕ) → List ℕ → List ℕ → ℕ → Descent → Descent
-descended board slots tokens lefts zero e = e
+unfoldable pub descended : Board → (ℕ → Corner → ℕ → ℕ) → List ℕ → List ℕ → ℕ → Descent → Option Descent
+descended board slots tokens lefts zero e = Some e
 descended board slots tokens lefts (suc t) e =
-    descended board slots tokens lefts t (down_node board slots tokens lefts t e)
+    option_and_then (descended board slots tokens lefts t) (down_node board slots tokens lefts t e)
 
 -- every corner given is one of the chip
 pub record Settled (board : Board) (e : Descent) : Type 0 where
@@ -88,12 +81,12 @@ abbrev pub any_suits : ℕ → Rectangle → Bool
 any_suits k r = true
 
 -- what going down from the root's shape at (0, 0) gives of a design: every cut has a pair, and then each module its rectangle
-pub record LaidOut (board : Board) (slots : ℕ → Corner → ℕ → ℕ) (d : Design) (s : Shape) (r : Layout) : Type 0 where
-  pub ok : r.ok ≡ goes_down board.width.0 board.height.0 any_suits slots (root d) (corner 0 0) s
-  pub places : So r.ok → (k : ℕ) → k < d.modules
-      → place_of r.places k ≡ laid board.width.0 board.height.0 slots (root d) (corner 0 0) s k
+pub record LaidOut (board : Board) (slots : ℕ → Corner → ℕ → ℕ) (d : Design) (s : Shape) (r : Option (List Rectangle)) : Type 0 where
+  pub ok : is_some r ≡ goes_down board.width.0 board.height.0 any_suits slots (root d) (corner 0 0) s
+  pub places : IfSome r (λ ps. (k : ℕ) → k < d.modules
+      → place_of ps k ≡ laid board.width.0 board.height.0 slots (root d) (corner 0 0) s k)
 
 -- of any lawful design with these n tokens and left children
-abbrev pub LaysOut : Board → (ℕ → Corner → ℕ → ℕ) → List ℕ → List ℕ → ℕ → Shape → Layout → Type 0
+abbrev pub LaysOut : Board → (ℕ → Corner → ℕ → ℕ) → List ℕ → List ℕ → ℕ → Shape → Option (List Rectangle) → Type 0
 LaysOut board slots tokens lefts n s r =
     (d : Design) → LawfulDesign d → d.tokens ≡ tokens → nodes d ≡ n → LeftChildren d lefts → LaidOut board slots d s r

@@ -2,98 +2,103 @@
 // the rectangles that going down gives.
 #![tactic(auto)]
 
-ghost use Rattle.std.specs.Prelude.{◌≡◌, suc, ◌+◌, ◌-◌, ◌*◌, ◌≤◌, ◌<◌, max, length};
-ghost use Rattle.rules.specs.Chip.{corner};
+ghost use Rattle.std.specs.Prelude.{◌≡◌, IfSome, suc, ◌+◌, ◌-◌, ◌*◌, ◌≤◌, ◌<◌, max, length};
+ghost use Rattle.rules.specs.Chip.{corner, shape};
 ghost use Rattle.rules.specs.Tree.{token_of};
 ghost use Rattle.rules.specs.Choice.{beside, pairing};
 ghost use Rattle.rules.specs.Design.{most_tokens, most_columns, most_modules};
-ghost use Rattle.slots.specs.Lent.{OnBoard, slots_on, bytes_from, Lent};
-ghost use Rattle.choosing.specs.Choose.{Near, Storable, shape_at, chosen_shape, better_of, pair_in, taken_if};
-ghost use Rattle.choosing.specs.Choose.{first_of, first_pair, makes_whole, pair_at, pair_beside};
-ghost use Rattle.choosing.specs.Descend.{first_descent, stopped_at, down_leaf, given_rooms, down_cut, down_token, Settled, LaysOut};
+ghost use Rattle.slots.specs.Lent.{OnBoard, slots_on, Lent};
+ghost use Rattle.choosing.specs.Choose.{Near, Storable, IsSlot, byte_in, shape_at, chosen_shape, better_of, pair_in, taken_if};
+ghost use Rattle.choosing.specs.Choose.{IsFirst, makes_whole, pair_at, pair_beside, FirstBeside};
+ghost use Rattle.choosing.specs.Descend.{first_descent, down_leaf, given_rooms, down_cut, down_token, Settled, LaysOut};
 
 use rules::{Columns, Corner, Direction, MOST_MODULES, MOST_TOKENS, Rectangle, Rows, Shape, Token};
 use slots::{Board, slot_start};
 use tokens::token_of;
 
-// What the search for a pair finds: the left child's shape and the right child's, or none.
+const ORIGIN: Corner = Corner {
+    x: Columns(0),
+    y: Rows(0),
+};
+
+// The stored lists of a tree's first nodes: the bytes lent for them, and the board at whose corners they stand.
 #[derive(Clone, Copy)]
-pub enum Pair {
-    Taken(Shape, Shape),
-    None,
+pub struct Lists<'a> {
+    pub work: &'a [u8],
+    pub board: Board,
+    pub nodes: usize,
+    pub ghost lent: { Lent board nodes work.now },
 }
 
-// How far going down has come: whether each cut so far has a pair, and the rectangles given to nodes and to modules.
+// What the search for a pair finds: the left child's shape and the right child's.
+#[derive(Clone, Copy)]
+pub struct Pair {
+    pub left: Shape,
+    pub right: Shape,
+}
+
+// How far going down has come: the rectangles given to nodes and to modules.
 #[derive(Clone, Copy)]
 pub struct Descent {
-    pub ok: bool,
     pub rooms: [Rectangle; MOST_TOKENS],
     pub places: [Rectangle; MOST_MODULES],
 }
 
-// Where each module goes, if every cut has a pair.
-#[derive(Clone, Copy)]
-pub struct Layout {
-    pub ok: bool,
-    pub places: [Rectangle; MOST_MODULES],
+impl<'a> Lists<'a> {
+    // The slot of node t at a corner.
+    fn slot(self, t: usize, at: Corner) -> &'a [u8]
+        requires { (t < self.nodes) × OnBoard self.board at }
+        ensures { IsSlot self.entry.board.width.0 (slots_on self.entry.board self.entry.work.now t at) result.now }
+    {
+        let from = slot_start(self.board, t, at);
+        &self.work[from..from + self.board.width.0]
+    }
 }
 
-// The shape that byte j of the slot at an address stores; its height is 0 where there is none.
-fn shape_at(work: &[u8], from: usize, j: usize) -> Shape
-    requires { (from + j < length work.now) × (j < most_columns) }
-    ensures { (result ≡ shape_at (bytes_from work.now from) j) × Storable result }
+// The shape that byte j of a slot stores; its height is 0 where there is none.
+fn shape_at(j: usize, byte: u8) -> Shape
+    requires { j < most_columns }
+    ensures { (result ≡ shape (suc j) byte) × Storable result }
 {
-    let h = work[from + j] as usize;
     Shape {
         w: Columns(j + 1),
-        h: Rows(h),
+        h: Rows(usize::from(byte)),
     }
 }
 
 // The better of the best shape so far and a wider one: the wider if it is the first, or has less area.
-fn better_of(best: Shape, next: Shape) -> Shape
-    requires { Storable best × Storable next }
+fn better_of(best: Option<Shape>, next: Shape) -> Option<Shape>
+    requires { IfSome best (λ s. Storable s) × Storable next }
     ensures { result ≡ better_of best next }
 {
     if next.h.0 == 0 {
         return best;
     }
-    if best.w.0 == 0 {
-        return next;
+    match best {
+        Some(s) if s.w.0 * s.h.0 <= next.w.0 * next.h.0 => best,
+        _ => Some(next),
     }
-    if next.w.0 * next.h.0 < best.w.0 * best.h.0 {
-        return next;
+}
+
+// The best shape of a slot.
+fn best_in(slot: &[u8]) -> Option<Shape>
+    requires { length slot.now ≤ most_columns }
+    ensures { result ≡ chosen_shape (length slot.now) (byte_in slot.now) }
+{
+    let mut best = None;
+    for (j, byte) in slot.iter().enumerate() {
+        best = better_of(best, shape_at(j, *byte));
     }
     best
 }
 
-// The best shape of the slot at an address.
-fn best_in(work: &[u8], from: usize, width: Columns) -> Shape
-    requires { (from + width.0 ≤ length work.now) × (width.0 ≤ most_columns) }
-    ensures { result ≡ chosen_shape width.0 (bytes_from work.now from) }
+// The shape to choose from the list of node t at (0, 0): that of least area, of equals the narrowest; none if the list is empty.
+pub fn best_shape(lists: Lists, t: usize) -> Option<Shape>
+    requires { t < lists.nodes }
+    ensures { let l = lists.entry in
+        result ≡ chosen_shape l.board.width.0 (slots_on l.board l.work.now t (corner 0 0)) }
 {
-    let mut best = Shape {
-        w: Columns(0),
-        h: Rows(0),
-    };
-    let end = width.0;
-    for j in 0..end {
-        best = better_of(best, shape_at(work, from, j));
-    }
-    best
-}
-
-// The shape to choose from the list of node t at (0, 0): that of least area, of equals the narrowest; (0, 0) if the list is empty.
-pub fn best_shape(work: &[u8], board: Board, t: usize) -> Shape
-    requires { Lent board (suc t) work.now }
-    ensures { result ≡ chosen_shape board.width.0 (slots_on board work.now t (corner 0 0)) }
-{
-    let origin = Corner {
-        x: Columns(0),
-        y: Rows(0),
-    };
-    let from = slot_start(board, t, origin);
-    best_in(work, from, board.width)
+    best_in(lists.slot(t, ORIGIN))
 }
 
 // The corner of the right child, beside or above the left child's shape.
@@ -104,33 +109,13 @@ fn beside_of(direction: Direction, at: Corner, left: Shape) -> Corner
     match direction {
         Direction::Vertical => Corner {
             x: Columns(at.x.0 + left.w.0),
-            y: Rows(at.y.0),
+            y: at.y,
         },
         Direction::Horizontal => Corner {
-            x: Columns(at.x.0),
+            x: at.x,
             y: Rows(at.y.0 + left.h.0),
         },
     }
-}
-
-// The greater of two widths.
-fn wider(a: Columns, b: Columns) -> Columns
-    ensures { result.0 ≡ max a.0 b.0 }
-{
-    if a.0 < b.0 {
-        return b;
-    }
-    a
-}
-
-// The greater of two heights.
-fn higher(a: Rows, b: Rows) -> Rows
-    ensures { result.0 ≡ max a.0 b.0 }
-{
-    if a.0 < b.0 {
-        return b;
-    }
-    a
 }
 
 // The box of two shapes, the right one beside or above the left one.
@@ -141,147 +126,103 @@ fn box_of(direction: Direction, left: Shape, right: Shape) -> Shape
     match direction {
         Direction::Vertical => Shape {
             w: Columns(left.w.0 + right.w.0),
-            h: higher(left.h, right.h),
+            h: Rows(left.h.0.max(right.h.0)),
         },
         Direction::Horizontal => Shape {
-            w: wider(left.w, right.w),
+            w: Columns(left.w.0.max(right.w.0)),
             h: Rows(left.h.0 + right.h.0),
         },
     }
 }
 
 // The two shapes, if the right one is there and their box is the whole.
-fn pair_if(direction: Direction, left: Shape, right: Shape, whole: Shape) -> Pair
+#[tactic(auto, unfolding(crate::specs::Choose::makes_whole))]
+fn pair_if(direction: Direction, left: Shape, right: Shape, whole: Shape) -> Option<Pair>
     requires { Storable left × Storable right }
     ensures { result ≡ taken_if (makes_whole direction left right whole) left right }
 {
-    if right.h.0 == 0 {
-        return Pair::None;
-    }
     let both = box_of(direction, left, right);
-    if both.w.0 != whole.w.0 {
-        return Pair::None;
-    }
-    if both.h.0 != whole.h.0 {
-        return Pair::None;
-    }
-    Pair::Taken(left, right)
+    let taken = 0 < right.h.0 && both.w.0 == whole.w.0 && both.h.0 == whole.h.0;
+    taken.then_some(Pair { left, right })
 }
 
-// The pair found first, or else the later one.
-fn first_of(found: Pair, later: Pair) -> Pair
-    ensures { result ≡ first_of found later }
+// The first right shape, in a slot, that makes the whole with this left one.
+#[tactic(auto, unfolding(crate::specs::Choose::pair_at))]
+fn right_in(slot: &[u8], direction: Direction, left: Shape, whole: Shape) -> Option<Pair>
+    requires { (length slot.now ≤ most_columns) × Storable left }
+    ensures { IsFirst (pair_at direction left whole (byte_in slot.now)) (length slot.now) result }
 {
-    match found {
-        Pair::Taken(left, right) => Pair::Taken(left, right),
-        Pair::None => later,
-    }
-}
-
-// The first right shape, in the slot at an address, that makes the whole with this left one.
-fn right_in(
-    work: &[u8],
-    from: usize,
-    width: Columns,
-    direction: Direction,
-    left: Shape,
-    whole: Shape,
-) -> Pair
-    requires { (from + width.0 ≤ length work.now) × (width.0 ≤ most_columns) × Storable left }
-    ensures { result ≡ first_pair (pair_at direction left whole (bytes_from work.now from)) width.0 }
-{
-    let mut pair = Pair::None;
-    let end = width.0;
-    for j in 0..end {
-        let right = shape_at(work, from, j);
-        let later = pair_if(direction, left, right, whole);
-        pair = first_of(pair, later);
-    }
-    pair
+    slot.iter().enumerate().find_map(|(j, byte)| {
+        pair_if(direction, left, shape_at(j, *byte), whole)
+    })
 }
 
 // The first pair with this left shape. Beyond the chip's last column or row there is no corner, and so no pair.
 fn pair_with(
-    work: &[u8],
-    board: Board,
+    lists: Lists,
     direction: Direction,
     right: usize,
-    at: Corner,
     left: Shape,
-    whole: Shape,
-) -> Pair
-    requires { Lent board (suc right) work.now × OnBoard board at × Storable left }
-    ensures { result ≡ pair_beside board direction (slots_on board work.now right) at whole left }
+    room: Rectangle,
+) -> Option<Pair>
+    requires { (right < lists.nodes) × OnBoard lists.board room.corner × Storable left }
+    ensures { let l = lists.entry in
+        result ≡ pair_beside l.board direction (slots_on l.board l.work.now right) room.corner room.shape left }
 {
     if left.h.0 == 0 {
-        return Pair::None;
+        return None;
     }
-    let corner = beside_of(direction, at, left);
-    if board.width.0 <= corner.x.0 {
-        return Pair::None;
+    let corner = beside_of(direction, room.corner, left);
+    if lists.board.width.0 <= corner.x.0 || lists.board.height.0 <= corner.y.0 {
+        return None;
     }
-    if board.height.0 <= corner.y.0 {
-        return Pair::None;
-    }
-    let from = slot_start(board, right, corner);
-    right_in(work, from, board.width, direction, left, whole)
+    right_in(lists.slot(right, corner), direction, left, room.shape)
 }
 
-// The pair to take at a cut: the first left shape that has a right one, and the first such right one.
+// The first pair, for a cut of this room, with a left shape in a slot.
+fn left_in(
+    slot: &[u8],
+    lists: Lists,
+    direction: Direction,
+    right: usize,
+    room: Rectangle,
+) -> Option<Pair>
+    requires { (length slot.now ≤ most_columns) × (right < lists.nodes) × OnBoard lists.board room.corner }
+    ensures { let l = lists.entry in
+        FirstBeside l.board (slots_on l.board l.work.now) direction right room slot.now result }
+{
+    slot.iter().enumerate().find_map(|(i, byte)| {
+        pair_with(lists, direction, right, shape_at(i, *byte), room)
+    })
+}
+
+// The pair to take at a cut of this room: the first left shape that has a right one, and the first such right one.
 pub fn find_pair(
-    work: &[u8],
-    board: Board,
+    lists: Lists,
     direction: Direction,
     left: usize,
     right: usize,
-    at: Corner,
-    whole: Shape,
-) -> Pair
-    requires { Lent board (suc left) work.now × Lent board (suc right) work.now × OnBoard board at }
-    ensures { result ≡ pair_in board (slots_on board work.now) direction left right at whole }
+    room: Rectangle,
+) -> Option<Pair>
+    requires { (left < lists.nodes) × (right < lists.nodes) × OnBoard lists.board room.corner }
+    ensures { let l = lists.entry in
+        result ≡ pair_in l.board (slots_on l.board l.work.now) direction left right room.corner room.shape }
 {
-    let from = slot_start(board, left, at);
-    let mut pair = Pair::None;
-    let end = board.width.0;
-    for i in 0..end {
-        let shape = shape_at(work, from, i);
-        let next = pair_with(work, board, direction, right, at, shape, whole);
-        pair = first_of(pair, next);
-    }
-    pair
-}
-
-// Going down has failed: a cut has no pair, or a token is none.
-fn stopped(descent: Descent) -> Descent
-    ensures { result ≡ stopped_at descent }
-{
-    let rooms = descent.rooms;
-    let places = descent.places;
-    Descent {
-        ok: false,
-        rooms,
-        places,
-    }
+    left_in(lists.slot(left, room.corner), lists, direction, right, room)
 }
 
 // "A leaf's rectangle is its shape at its corner."
-fn down_leaf(k: usize, t: usize, descent: Descent) -> Descent
+fn down_leaf(k: usize, t: usize, mut descent: Descent) -> Descent
     requires { (k < most_modules) × (t < most_tokens) }
     ensures { result ≡ down_leaf k t descent }
 {
-    let rooms = descent.rooms;
-    let mut places = descent.places;
-    places[k] = rooms[t];
-    Descent {
-        ok: descent.ok,
-        rooms,
-        places,
-    }
+    descent.places[k] = descent.rooms[t];
+    descent
 }
 
 // The two children of a cut get their rectangles.
 fn given(
-    descent: Descent,
+    mut descent: Descent,
     left: usize,
     left_room: Rectangle,
     right: usize,
@@ -290,113 +231,92 @@ fn given(
     requires { (left < most_tokens) × (right < most_tokens) }
     ensures { result ≡ given_rooms left left_room right right_room descent }
 {
-    let places = descent.places;
-    let mut rooms = descent.rooms;
-    rooms[left] = left_room;
-    rooms[right] = right_room;
-    Descent {
-        ok: descent.ok,
-        rooms,
-        places,
-    }
+    descent.rooms[left] = left_room;
+    descent.rooms[right] = right_room;
+    descent
 }
 
-// Going down at a cut: its children get the shapes of its pair, the right one beside the left one. The left child stands before the
-// right child, which stands just before the cut.
+// Going down at a cut, if it has a pair: its children get the shapes of the pair, the right one beside the left one. The left child
+// stands before the right child, which stands just before the cut.
 fn down_cut(
-    work: &[u8],
-    board: Board,
+    lists: Lists,
     direction: Direction,
     left: usize,
     t: usize,
     descent: Descent,
-) -> Descent
-    requires { Lent board (suc t) work.now × Settled board descent × (left ≤ 255) }
-    ensures { result ≡ down_cut board (slots_on board work.now) direction left t descent }
+) -> Option<Descent>
+    requires { (t < lists.nodes) × Settled lists.board descent × (left ≤ 255) }
+    ensures { let l = lists.entry in
+        result ≡ down_cut l.board (slots_on l.board l.work.now) direction left t descent }
 {
     if t <= left + 1 {
-        return stopped(descent);
+        return None;
     }
     let room = descent.rooms[t];
-    let corner = room.corner;
-    let pair = find_pair(work, board, direction, left, t - 1, corner, room.shape);
-    match pair {
-        Pair::Taken(s, o) => {
-            let beside = beside_of(direction, corner, s);
-            let left_room = Rectangle { corner, shape: s };
-            let right_room = Rectangle {
-                corner: beside,
-                shape: o,
-            };
-            given(descent, left, left_room, t - 1, right_room)
-        }
-        Pair::None => stopped(descent),
-    }
+    let pair = find_pair(lists, direction, left, t - 1, room)?;
+    let corner = beside_of(direction, room.corner, pair.left);
+    let left_room = Rectangle {
+        corner: room.corner,
+        shape: pair.left,
+    };
+    let right_room = Rectangle {
+        corner,
+        shape: pair.right,
+    };
+    Some(given(descent, left, left_room, t - 1, right_room))
 }
 
 // Going down at node t, whose token has this value; if it is a cut, its left child stands at this position.
-fn down_node(work: &[u8], board: Board, v: u8, left: u8, t: usize, descent: Descent) -> Descent
-    requires { Lent board (suc t) work.now × Settled board descent }
-    ensures { result ≡ down_token board (slots_on board work.now) (token_of most_modules v) left t descent }
+fn down_node(lists: Lists, v: u8, left: u8, t: usize, descent: Descent) -> Option<Descent>
+    requires { (t < lists.nodes) × Settled lists.board descent }
+    ensures { let l = lists.entry in
+        result ≡ down_token l.board (slots_on l.board l.work.now) (token_of most_modules v) left t descent }
 {
-    let token = token_of(v);
-    match token {
-        Token::Cut(direction) => down_cut(work, board, direction, left as usize, t, descent),
-        Token::Module(k) => down_leaf(k, t, descent),
-        Token::Beyond => stopped(descent),
+    match token_of(v) {
+        Token::Cut(direction) => down_cut(lists, direction, usize::from(left), t, descent),
+        Token::Module(k) => Some(down_leaf(k, t, descent)),
+        Token::Beyond => None,
     }
 }
 
 // Going down from the root's shape at (0, 0).
+#[tactic(auto, unfolding(crate::specs::Descend::first_descent))]
 fn first_descent(nodes: usize, shape: Shape) -> Descent
     requires { (1 ≤ nodes) × (nodes ≤ most_tokens) }
     ensures { result ≡ first_descent nodes shape }
 {
-    let origin = Corner {
-        x: Columns(0),
-        y: Rows(0),
-    };
     let nowhere = Rectangle {
-        corner: origin,
+        corner: ORIGIN,
         shape: Shape {
             w: Columns(0),
             h: Rows(0),
         },
     };
     let mut rooms = [nowhere; MOST_TOKENS];
-    let places = [nowhere; MOST_MODULES];
     rooms[nodes - 1] = Rectangle {
-        corner: origin,
+        corner: ORIGIN,
         shape,
     };
     Descent {
-        ok: true,
         rooms,
-        places,
+        places: [nowhere; MOST_MODULES],
     }
 }
 
 // The rectangles that going down from the root's shape at (0, 0) gives, if every cut has a pair.
 pub fn lay_out(
+    lists: Lists,
     tokens: [u8; MOST_TOKENS],
     lefts: [u8; MOST_TOKENS],
-    board: Board,
-    nodes: usize,
-    work: &[u8],
     shape: Shape,
-) -> Layout
-    requires { Lent board nodes work.now × (1 ≤ nodes) }
-    ensures { LaysOut board (slots_on board work.now) tokens lefts nodes shape result }
+) -> Option<[Rectangle; MOST_MODULES]>
+    requires { 1 ≤ lists.nodes }
+    ensures { let l = lists.entry in
+        LaysOut l.board (slots_on l.board l.work.now) tokens lefts l.nodes shape result }
 {
-    let mut descent = first_descent(nodes, shape);
-    let mut t = nodes;
-    while 0 < t {
-        t -= 1;
-        descent = down_node(work, board, tokens[t], lefts[t], t, descent);
+    let mut descent = first_descent(lists.nodes, shape);
+    for t in (0..lists.nodes).rev() {
+        descent = down_node(lists, tokens[t], lefts[t], t, descent)?;
     }
-    let places = descent.places;
-    Layout {
-        ok: descent.ok,
-        places,
-    }
+    Some(descent.places)
 }

@@ -2,11 +2,11 @@
 -- rectangles pass, which then are the only ones. So of the three outcomes one is the case, and its answer is given. Assumes nothing.
 use Rattle.std.specs.Prelude.{Ok, Err}
 use mathlib.Core.Path.{◌≡◌, refl, sym, ◌∙◌, ap}
-use mathlib.Core.Bool.{true, false, So}
+use mathlib.Core.Bool.{So}
 use mathlib.Core.List.{List, ◌++◌}
 use Prim.Native.Nat.{ℕ, ◌-◌, ◌*◌, ◌<◌}
-use native.Mathlib.Omega.{arith}
-use lib.ListN.{drop}
+use lib.ListN.{length, take, drop}
+use Rattle.std.specs.Prelude.{Some, None}
 use Rattle.rules.specs.declared.Shape.{Shape}
 use Rattle.rules.specs.declared.Rectangle.{Rectangle}
 use Rattle.rules.specs.declared.Design.{Design}
@@ -14,36 +14,30 @@ use Rattle.rules.specs.declared.Refusal.TheVariants.{Unreliable, NoPlacement}
 use Rattle.rules.specs.Chip.{corner}
 use Rattle.rules.specs.Placement.{Placement}
 use Rattle.rules.specs.Choice.{rows_out}
-use Rattle.rules.specs.Design.{most_columns, most_rows, nodes, slots_of, root_slot, GoesDown, width_of, height_of, NoShapeIn, ChosenIn}
+use Rattle.rules.specs.Design.{nodes, slots_of, root_slot, GoesDown, width_of, NoShapeIn, ChosenIn}
 use Rattle.rules.specs.Service.{Enough}
-use Rattle.rules.proofs.Test.{laid_for}
+use Rattle.rules.proofs.Test.{goes_for, laid_for}
 use Rattle.rules.proofs.Searching.{absurd_so}
-use Rattle.rules.proofs.Limits.{limits}
 use Rattle.rules.proofs.Choosing.{chosen_once}
 use Rattle.rules.proofs.Floorplans.{laid_goes, goes_laid}
 use Rattle.rules.proofs.RowsOut.{rows_same}
-use Rattle.choosing.specs.declared.Layout.{Layout}
 use Rattle.choosing.specs.Choose.{chosen_shape}
 use Rattle.choosing.specs.Descend.{place_of}
 use Rattle.choosing.proofs.Best.{chosen_none, chosen_this}
 use Rattle.slots.specs.declared.Board.{Board}
 use Rattle.slots.specs.Size.{board_of}
 use Rattle.slots.specs.Lent.{slots_on}
-use Rattle.placing.specs.Place.{PlacesOn, WentDown, PlacedFrom}
+use Rattle.placing.specs.Place.{WentDown, PlacedFrom}
+use Rattle.placing.proofs.Going.{first_of}
 
 module _ {d : Design} {work rows : List ℕ} (enough : Enough d work rows) where
-  -- a place on the design's chip is on the largest one
-  pub on_largest : {places : List Rectangle} → PlacesOn (width_of d) (height_of d) d.modules places → PlacesOn most_columns most_rows d.modules places
-  on_largest on = record { on = λ k h. let l = limits d enough.lawful in let o = on.on k h in omega arith }
-
   -- the shape found, on the design's own board
-  module _ {s : Shape} {board : Board} (e : board ≡ board_of d)
-      (q : s ≡ chosen_shape board.width.0 (slots_on board work (nodes d - 1) (corner 0 0))) where
-    pub none_chosen : s.w.0 ≡ 0 → NoShapeIn d work
-    none_chosen z = chosen_none (width_of d) (root_slot d (slots_of d work)) s (rw e at q) z
+  module _ {board : Board} {bytes : List ℕ} {t : ℕ} (e : board ≡ board_of d) (f : bytes ≡ work) (g : t ≡ nodes d - 1) where
+    pub none_chosen : None ≡ chosen_shape board.width.0 (slots_on board bytes t (corner 0 0)) → NoShapeIn d work
+    none_chosen q = chosen_none (width_of d) (root_slot d (slots_of d work)) (rw (e, f, g) at q)
 
-    pub this_chosen : (s.w.0 ≡ 0 → ⊥) → ChosenIn d work s
-    this_chosen n = chosen_this (width_of d) (root_slot d (slots_of d work)) s (rw e at q) n
+    pub this_chosen : {s : Shape} → Some s ≡ chosen_shape board.width.0 (slots_on board bytes t (corner 0 0)) → ChosenIn d work s
+    this_chosen q = chosen_this (width_of d) (root_slot d (slots_of d work)) (rw (e, f, g) at q)
 
   pub answer_none : NoShapeIn d work → PlacedFrom d work rows (Err NoPlacement) rows
   answer_none z = record {
@@ -52,33 +46,32 @@ module _ {d : Design} {work rows : List ℕ} (enough : Enough d work rows) where
     done = λ o p ch _. absurd (z o ch.stored);
   }
 
-  module _ {s : Shape} (ch : ChosenIn d work s)
-      {r : Layout} (w : WentDown d (slots_of d work) s r) where
+  module _ {s : Shape} (ch : ChosenIn d work s) where
     only : (o : Shape) → ChosenIn d work o → o ≡ s
     only o x = chosen_once (width_of d) (root_slot d (slots_of d work)) o s x ch
 
-    -- whoever goes down, the layout did, and to the same rectangles
-    went : (o : Shape) (p : Placement) → ChosenIn d work o → GoesDown d (slots_of d work) o p
-        → So r.ok × ((k : ℕ) → k < d.modules → p k ≡ place_of r.places k)
-    went o p x down =
-        let (g, f) = goes_laid d enough.lawful (slots_of d work) s p (rw (only o x) at down) in
-        let ok : So r.ok = w.ok ∙ g in (ok, λ k h. f k h ∙ sym (w.places ok k h))
+    -- whoever goes down goes down to the rectangles of the rules
+    goes : (o : Shape) (p : Placement) → ChosenIn d work o → GoesDown d (slots_of d work) o p
+        → So (goes_for d (slots_of d work) s) × ((k : ℕ) → k < d.modules → p k ≡ laid_for d (slots_of d work) s k)
+    goes o p x down = goes_laid d enough.lawful (slots_of d work) s p (rw (only o x) at down)
 
-    pub answer_lost : r.ok ≡ false → PlacedFrom d work rows (Err Unreliable) rows
-    answer_lost e = record {
+    pub answer_lost : WentDown d (slots_of d work) s None → PlacedFrom d work rows (Err Unreliable) rows
+    answer_lost w = record {
       none = λ z. absurd (z s ch.stored);
       lost = λ _ _ _. (refl, refl);
-      done = λ o p x down. absurd_so (sym e ∙ (went o p x down).0);
+      done = λ o p x down. absurd_so (w.ok ∙ (goes o p x down).0);
     }
 
-    -- where the layout did, so does one
-    laid_went : r.ok ≡ true → GoesDown d (slots_of d work) s (laid_for d (slots_of d work) s)
-    laid_went e = laid_goes d enough.lawful (slots_of d work) s (sym w.ok ∙ e)
-
-    pub answer_done : {rows' : List ℕ} → r.ok ≡ true → rows' ≡ rows_out d.modules (place_of r.places) ++ drop (4 * d.modules) rows
+    -- the rows of its first modules are put out
+    pub answer_done : {places : List Rectangle} {rows' : List ℕ} → WentDown d (slots_of d work) s (Some places) → length (take d.modules places) ≡ d.modules
+        → rows' ≡ rows_out (length (take d.modules places)) (place_of (take d.modules places)) ++ drop (4 * length (take d.modules places)) rows
         → PlacedFrom d work rows (Ok s) rows'
-    answer_done e q = record {
+    answer_done {places} w n q = record {
       none = λ z. absurd (z s ch.stored);
-      lost = λ o x no. absurd ((rw (only o x) at no) _ (laid_went e));
-      done = λ o p x down. (ap Ok (sym (only o x)), q ∙ rw (rows_same d.modules p (place_of r.places) (went o p x down).1));
+      lost = λ o x no. absurd ((rw (only o x) at no) _ (laid_goes d enough.lawful (slots_of d work) s (sym w.ok)));
+      done = λ o p x down. (
+        ap Ok (sym (only o x)),
+        rw n at q ∙ rw (rows_same d.modules p (place_of (take d.modules places))
+            (λ k h. (goes o p x down).1 k h ∙ sym (w.places k h) ∙ sym (first_of d.modules places k h))),
+      );
     }

@@ -1,6 +1,5 @@
 -- One floorplan from stored lists: what each step asks for, and the answer by its outcomes.
-use Rattle.std.specs.Prelude.{◌≡◌, List, ◌++◌, ℕ, ◌≤◌, ◌<◌, ◌*◌, length, drop, Ok, Err}
-use Rattle.std.proofs.Math.Bool.{So}
+use Rattle.std.specs.Prelude.{◌≡◌, List, ◌++◌, ℕ, ◌≤◌, ◌<◌, ◌*◌, length, drop, Option, IfSome, is_some, Ok, Err}
 use Rattle.rules.specs.declared.Corner.{Corner}
 use Rattle.rules.specs.declared.Shape.{Shape}
 use Rattle.rules.specs.declared.Rectangle.{Rectangle}
@@ -14,7 +13,6 @@ use Rattle.rules.specs.Choice.{rows_out}
 use Rattle.rules.specs.Design.{most_columns, most_rows, most_modules, given_for, LawfulDesign, slots_of, AllStairs, root_slot, GoesDown, width_of, height_of, NoShapeIn, ChosenIn}
 use Rattle.rules.specs.Service.{work_of, rows_of}
 use Rattle.rules.proofs.Test.{goes_for, laid_for}
-use Rattle.choosing.specs.declared.Layout.{Layout}
 use Rattle.choosing.specs.Descend.{place_of}
 
 -- the places of the first m modules are on a chip
@@ -33,10 +31,10 @@ abbrev pub GivenIn : Design → List Rectangle → List Rectangle → Type 0
 GivenIn d rooms places = (k : ℕ) → k < d.modules → place_of places k ≡ given_for d k (place_of rooms k)
 
 -- what going down from the root's shape at (0, 0) gives, where what the modules are given has to suit
-pub record WentDown (d : Design) (slots : ℕ → Corner → ℕ → ℕ) (s : Shape) (r : Layout) : Type 0 where
-  pub ok : r.ok ≡ goes_for d slots s
-  pub places : So r.ok → (k : ℕ) → k < d.modules → place_of r.places k ≡ laid_for d slots s k
-  pub chip : So r.ok → PlacesOn (width_of d) (height_of d) d.modules r.places
+pub record WentDown (d : Design) (slots : ℕ → Corner → ℕ → ℕ) (s : Shape) (r : Option (List Rectangle)) : Type 0 where
+  pub ok : is_some r ≡ goes_for d slots s
+  pub places : IfSome r (λ ps. (k : ℕ) → k < d.modules → place_of ps k ≡ laid_for d slots s k)
+  pub chip : IfSome r (λ ps. PlacesOn (width_of d) (height_of d) d.modules ps)
 
 -- what rows out asks: places of so many modules on the largest chip, and "four bytes" lent for each
 pub record RowsLent (m : ℕ) (places : List Rectangle) (rows : List ℕ) : Type 0 where

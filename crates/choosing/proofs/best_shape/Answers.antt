@@ -1,19 +1,7 @@
--- The root's slot at (0, 0) lies in the work bytes, and its best shape is the rules'. Assumes nothing.
-use mathlib.Core.Path.{◌∙◌, ap}
-use native.Mathlib.Omega.{arith}
-use Rattle.slots.proofs.Lending.{addressed, slot_lent, slot_bytes}
-use Rattle.choosing.specs.Choose.{chosen_shape}
+-- The root's slot at (0, 0) is the list's, and so its best shape is the rules'. Assumes nothing.
+use mathlib.Core.Path.{◌∙◌}
+use Rattle.choosing.proofs.Best.{same_best}
 use Rattle.choosing.proofs.best_shape.Goals as goal
 
-pub slot_start-from-requires : goal.slot_start-from-requires
-slot_start-from-requires c = let p = c.requires in addressed p _ (omega arith) (record { column = p.wide; row = p.high })
-
-pub best_in-requires : goal.best_in-requires
-best_in-requires c =
-    let p = c.requires in
-    (omega (arith, slot_lent p c.args.t (omega arith) (record { column = p.wide; row = p.high }), c.slot_start-from.ensures.0), p.columns)
-
 pub returns : goal.returns
-returns c =
-    let a = c.args in
-    c.best_in.ensures ∙ ap (chosen_shape _) (slot_bytes a.board a.t _ a.work.now c.slot_start-from.ensures.0)
+returns c = c.best_in.ensures ∙ rw c.slot.ensures.long (same_best _ _ _ (λ j h. c.slot.ensures.same j h))

@@ -1,33 +1,16 @@
--- While the loop goes on, every place so far suits; the first that does not settles it. Assumes nothing.
-use mathlib.Core.Path.{◌≡◌, sym, ◌∙◌}
+-- Each place is on the chip, so each can be tested; all pass if the test of all does. Assumes nothing.
+use mathlib.Core.Path.{◌≡◌}
+use mathlib.Core.Logic.{◌↔◌}
+use mathlib.Core.Bool.{true}
+use Prim.Native.Nat.{ℕ, ◌<◌}
 use native.Mathlib.Omega.{arith}
-use borrow.Author.Rules.{rules}
-use Rattle.rules.proofs.Limits.{limits}
-use Rattle.rules.proofs.Testing.{all_none, all_more, all_fails}
+use Rattle.rules.specs.Check.{is_suited}
+use Rattle.rules.proofs.Searching.{all_iff, same_test}
+use Rattle.choosing.specs.Descend.{place_of}
 use Rattle.placing.proofs.all_suit.Goals as goal
-
-pub loop-k-init : goal.loop-k-init
-loop-k-init c = (search rules, all_none _)
-
-pub offset_bounds-places-k : goal.offset_bounds-places-k
-offset_bounds-places-k c = omega (arith, limits _ c.requires.0)
-
-pub bounds-places-k : goal.bounds-places-k
-bounds-places-k c = omega (arith, limits _ c.requires.0)
-
-pub suits-requires : goal.suits-requires
-suits-requires c =
-    let p = c.requires in let h = c.loop-k-test.true in (p.0, h, p.1.on _ h)
-
-pub returns-then-not-suits : goal.returns-then-not-suits
-returns-then-not-suits c = sym (all_fails _ _ _ c.loop-k-test.true (sym c.suits.ensures ∙ c.if-not-suits.true))
-
-pub loop-k-preserved : goal.loop-k-preserved
-loop-k-preserved c = (
-  search rules,
-  all_more _ _ c.loop-k.invariant.1 (sym c.suits.ensures ∙ c.if-not-suits.false),
-)
 
 pub returns : goal.returns
 returns c =
-    let e : c.loop-k.k ≡ c.args.design.modules = omega arith in rw e at (sym c.loop-k.invariant.1)
+    let d = c.args.design in let p = c.args.places.now in
+    let q : c.all.result ≡ true ↔ ((k : ℕ) → k < d.modules → is_suited d k (place_of p k) ≡ true) = grind arith in
+    let a = all_iff d.modules (λ k. is_suited d k (place_of p k)) in same_test _ _ (λ r. a.1 (q.0 r), λ s. q.1 (a.0 s))

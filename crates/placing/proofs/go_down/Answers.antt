@@ -1,37 +1,26 @@
 -- What is laid out is this design's, so its places are on the chip and can be tested; a cut without a pair, or the test of the places,
 -- settles whether one goes down. Assumes nothing.
 use native.Mathlib.Omega.{arith}
-use borrow.Author.Tests.{not-true, not-false}
 use Rattle.rules.proofs.Limits.{limits}
-use Rattle.slots.proofs.Lending.{lent_of}
-use Rattle.placing.proofs.Going.{whole_rooms, laid_out, places_on, no_pair, all_tested}
+use Rattle.placing.proofs.Going.{first_on, whole_rooms, laid_out, places_on, no_pair, all_tested}
 use Rattle.placing.proofs.go_down.Goals as goal
 
-pub overflow_mul-nodes : goal.overflow_mul-nodes
-overflow_mul-nodes c = omega (arith, limits _ c.requires.lawful)
+pub lay_out-requires : goal.lay_out-requires
+lay_out-requires c = let l = limits _ c.requires.lawful in let e = c.lists_of-lists.ensures.1 in omega arith
 
-pub overflow_sub-nodes : goal.overflow_sub-nodes
-overflow_sub-nodes c = omega (arith, limits _ c.requires.lawful)
+pub returns-in_err-places : goal.returns-in_err-places
+returns-in_err-places c =
+    let e = c.lists_of-lists.ensures in
+    rw c.from_residual.ensures (no_pair c.requires (laid_out c.requires e.0 e.1 e.2 c.left_children.ensures c.in_err-places.ensures))
 
-pub lay_out-layout-requires : goal.lay_out-layout-requires
-lay_out-layout-requires c =
-    let p = c.requires in let l = limits _ p.lawful in
-    (lent_of _ p.lawful p.bytes c.board_of.ensures, omega arith)
-
-pub returns-then-not-layout : goal.returns-then-not-layout
-returns-then-not-layout c =
-    let p = c.requires in
-    let z = laid_out p c.board_of.ensures c.left_children-lefts.ensures c.lay_out-layout.ensures in
-    no_pair p z (not-true _ c.if-not-layout.true)
-
-pub all_suit-requires : goal.all_suit-requires
-all_suit-requires c =
-    let p = c.requires in
-    let z = laid_out p c.board_of.ensures c.left_children-lefts.ensures c.lay_out-layout.ensures in
-    (p.lawful, places_on p z (whole_rooms p z) (not-false _ c.if-not-layout.false))
+pub all_suit-requires-clause-on : goal.all_suit-requires-clause-on
+all_suit-requires-clause-on c =
+    let p = c.requires in let e = c.lists_of-lists.ensures in
+    let z = laid_out p e.0 e.1 e.2 c.left_children.ensures c.in_ok-places.ensures in
+    first_on _ _ (places_on p z _ (whole_rooms p z))
 
 pub returns : goal.returns
 returns c =
-    let p = c.requires in
-    let z = laid_out p c.board_of.ensures c.left_children-lefts.ensures c.lay_out-layout.ensures in
-    all_tested p z (whole_rooms p z) (not-false _ c.if-not-layout.false) c.all_suit.ensures
+    let p = c.requires in let e = c.lists_of-lists.ensures in
+    let z = laid_out p e.0 e.1 e.2 c.left_children.ensures c.in_ok-places.ensures in
+    rw c.then_some.ensures (all_tested p z _ (whole_rooms p z) c.all_suit.result c.all_suit.ensures)
