@@ -1,77 +1,55 @@
 // Serves the requests of docs/ASK.md, a line at a time: what is held and lent is kept, and the services are asked over it.
 #![tactic(auto)]
 
-mod answers;
 mod looking;
-mod names;
 mod scores;
 mod services;
 mod writes;
 
-ghost use Rattle.std.specs.Prelude.{◌≤◌, length};
-ghost use Rattle.keeping.specs.Lent.{Lent, Keeps};
-
-pub use answers::put_bad;
-pub use keeping::{Held, nothing_held};
-use keeping::{keep, with_design};
+pub use keeping::Held;
+use keeping::{Lent, request_in};
+use rules::Design;
 use services::answer;
-use words::is_fine;
-pub use words::{Why, next_of};
+use std::fmt;
+use std::fmt::Write;
+use telling::Text;
+pub use words::Why;
 
-// What is held after a line, and the length of its answer.
-#[derive(Clone, Copy)]
-pub struct Served {
-    pub held: Held,
-    pub length: usize,
-}
-
-// A service, over the design that is held, the work and the rows that are lent.
+// stays: tried as one struct, but a method that lends a part of Lent is not covered by the borrow checker (a slice past a ghost field).
+// Asks a service, over the design that is held and the bytes that are lent.
 fn ask(
     line: &[u8],
-    number: usize,
-    held: Held,
-    work: &mut [u8],
-    rows: &mut [u8],
-    out: &mut [u8],
-) -> Served
-    requires { Lent held work.old rows.old }
-    ensures { Keeps held result.held × (result.length ≤ length out.new) }
-{
-    let design = held.design;
-    let w = held.work;
-    let r = held.rows;
-    let answered = answer(line, number, design, &mut work[0..w], &mut rows[0..r], out);
-    let design = answered.design;
-    Served {
-        held: with_design(held, design),
-        length: answered.length,
+    design: &mut Design,
+    work: &mut Lent,
+    rows: &mut Lent,
+    text: &mut Text,
+) -> Result<fmt::Result, Why> {
+    let w = work.count;
+    let r = rows.count;
+    answer(line, design, &mut work.all[..w], &mut rows.all[..r], text)
+}
+
+// Keeps what a line holds or lends, or asks a service and puts its answer.
+fn answered(line: &[u8], held: &mut Held, text: &mut Text) -> Result<fmt::Result, Why> {
+    match request_in(line) {
+        Some(request) => {
+            held.keep(request, line)?;
+            Ok(Ok(()))
+        }
+        None => ask(line, &mut held.design, &mut held.work, &mut held.rows, text),
     }
 }
 
-// Serves the line of this number: keeps what it holds or lends, or asks a service, puts the answer into `out`, and gives its
-// length and what is then held.
-pub fn serve(
-    line: &[u8],
-    number: usize,
-    held: Held,
-    work: &mut [u8],
-    rows: &mut [u8],
-    out: &mut [u8],
-) -> Served
-    requires { Lent held work.old rows.old }
-    ensures { Lent result.held work.old rows.old × (result.length ≤ length out.new) }
-{
-    let kept = keep(line, held, work, rows);
-    let held = kept.held;
-    if kept.other {
-        return ask(line, number, held, work, rows, out);
-    }
-    let why = kept.why;
-    if is_fine(why) {
-        return Served { held, length: 0 };
-    }
-    Served {
-        held,
-        length: put_bad(number, why, out),
+// Puts the answer to the bad line of this number.
+pub fn put_bad(number: usize, why: Why, text: &mut Text) -> fmt::Result {
+    writeln!(text, "bad {number}: {why}")
+}
+
+// Serves the line of this number: keeps what it holds or lends, or asks a service, and puts the answer, if there is one. A text
+// takes what has room, so that putting never fails.
+pub fn serve(line: &[u8], number: usize, held: &mut Held, text: &mut Text) -> fmt::Result {
+    match answered(line, held, text) {
+        Ok(put) => put,
+        Err(why) => put_bad(number, why, text),
     }
 }

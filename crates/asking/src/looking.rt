@@ -1,19 +1,13 @@
 // `slot T X Y`: looks at the slot of node t at a corner in the lent work: slot BYTES
-ghost use Rattle.std.specs.Prelude.{◌≤◌, ◌<◌, length};
+ghost use Rattle.std.specs.Prelude.{◌≤◌, ◌<◌};
 
-use crate::answers::put_bad;
 use rules::{Columns, Corner, Design, MOST_COLUMNS, MOST_MODULES, MOST_ROWS, Rows};
 use slots::{Board, slot_start};
 use spelling::token_count;
-use telling::{put_byte, put_hex, put_word};
-use words::{Why, is_fine, numbers_in, words};
-
-// Where a slot starts, if the design has it.
-#[derive(Clone, Copy)]
-enum Found {
-    At(usize),
-    Nothing,
-}
+use std::fmt;
+use std::fmt::Write;
+use telling::{Hex, Text};
+use words::{Why, numbers_in, words};
 
 // Where the slot of node t stands at a corner of a chip so wide and high.
 fn start_of(width: usize, height: usize, t: usize, x: usize, y: usize) -> usize
@@ -31,58 +25,29 @@ fn start_of(width: usize, height: usize, t: usize, x: usize, y: usize) -> usize
     slot_start(board, t, at)
 }
 
-// The slot of node t at a corner, if the design is within the limits, t is a node, and the corner is on the chip.
-fn place_of(design: Design, t: usize, x: usize, y: usize) -> Found {
+// Where the slot of node t at a corner stands, if the design is within the limits, t is a node, and the corner is on the chip.
+fn place_of(design: Design, t: usize, x: usize, y: usize) -> Option<usize> {
     let width = design.chip.width.0;
     let height = design.chip.height.0;
-    let nodes = token_count(design.modules);
-    if width > MOST_COLUMNS {
-        return Found::Nothing;
+    if width > MOST_COLUMNS || height > MOST_ROWS || design.modules > MOST_MODULES {
+        return None;
     }
-    if height > MOST_ROWS {
-        return Found::Nothing;
+    if t >= token_count(design.modules) || x >= width || y >= height {
+        return None;
     }
-    if design.modules > MOST_MODULES {
-        return Found::Nothing;
-    }
-    if t >= nodes {
-        return Found::Nothing;
-    }
-    if x >= width {
-        return Found::Nothing;
-    }
-    if y >= height {
-        return Found::Nothing;
-    }
-    Found::At(start_of(width, height, t, x, y))
+    Some(start_of(width, height, t, x, y))
 }
 
-// Puts so many bytes of work from a place on, if they are lent.
-fn put_slot(work: &[u8], start: usize, width: usize, number: usize, out: &mut [u8]) -> usize
-    ensures { result ≤ length out.new }
-{
-    if start > work.len() {
-        return put_bad(number, Why::NoRoom, out);
-    }
-    let rest = &work[start..];
-    if width > rest.len() {
-        return put_bad(number, Why::NoRoom, out);
-    }
-    let at = put_word(out, 0, b"slot");
-    let at = put_hex(out, at, &rest[0..width]);
-    put_byte(out, at, b'\n')
+// The slot of node t at a corner, if the design has it and its bytes are lent.
+fn slot_in(design: Design, work: &[u8], t: usize, x: usize, y: usize) -> Option<&[u8]> {
+    let start = place_of(design, t, x, y)?;
+    work.get(start..)?.get(..design.chip.width.0)
 }
 
-pub fn look(line: &[u8], number: usize, design: Design, work: &[u8], out: &mut [u8]) -> usize
-    ensures { result ≤ length out.new }
-{
+pub fn look(line: &[u8], design: Design, work: &[u8], text: &mut Text) -> Result<fmt::Result, Why> {
     let mut said = [0usize; 3];
-    let why = numbers_in(b' ', words(line, 1, 3), &mut said);
-    if !is_fine(why) {
-        return put_bad(number, why, out);
-    }
-    match place_of(design, said[0], said[1], said[2]) {
-        Found::At(start) => put_slot(work, start, design.chip.width.0, number, out),
-        Found::Nothing => put_bad(number, Why::NoRoom, out),
-    }
+    numbers_in(b' ', words(line, 1, 3), &mut said)?;
+    let [t, x, y] = said;
+    let slot = slot_in(design, work, t, x, y).ok_or(Why::NoRoom)?;
+    Ok(writeln!(text, "slot {}", Hex(slot)))
 }

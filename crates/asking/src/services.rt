@@ -1,100 +1,114 @@
-// The services as a line asks them: which one, what the line says to it, and its answer as text in lent bytes.
-ghost use Rattle.std.specs.Prelude.{◌≤◌, length};
-
-use crate::answers::{
-    Answer, Shown, handed_back, no_answer, planned, put_answer, put_bad, replied,
-};
+// The services as a line asks them: which one, what the line says to it, and its answer as a line of text. The design that a
+// service hands back is then held.
 use crate::looking::look;
-use crate::names::{Service, service_in, why_unknown};
 use crate::scores::score;
 use crate::writes::write;
-use rules::Design;
-use spelling::{Asked, edit_in};
-use words::{MOST_SAID, bytes_in, is_fine, word};
+use keeping::is_kept;
+use replies::{Numbered, number_of};
+use rules::{Design, Refusal, Shape};
+use spelling::{Told, edit_in};
+use std::fmt;
+use std::fmt::Write;
+use telling::{Hash, Hex, Text};
+use words::{MOST_SAID, Why, bytes_in, count, word};
 
-// The design that is held after a line, and the length of its answer.
-#[derive(Clone, Copy)]
-pub struct Answered {
-    pub design: Design,
-    pub length: usize,
+// A reply's number, and what is said beside it.
+fn said(reply: Result<(), Refusal>) -> Numbered {
+    match reply {
+        Ok(()) => Numbered(0, 0),
+        Err(e) => number_of(e),
+    }
 }
 
-// `read BYTES`: reads a design, which is then held: read NUMBER POSITION DESIGN
-fn read(line: &[u8], design: Design) -> Answer
-    ensures { result.count ≤ 3 }
-{
+// `read BYTES`: reads a design: read NUMBER POSITION DESIGN
+fn read(line: &[u8], design: &mut Design, text: &mut Text) -> Result<fmt::Result, Why> {
     let mut bytes = [0u8; MOST_SAID];
-    let said = bytes_in(word(line, 1), &mut bytes);
-    let why = said.why;
-    if !is_fine(why) {
-        return no_answer(design, why);
-    }
-    let n = said.n;
-    handed_back(cellweaver::read(&bytes[0..n]), 2, Shown::Design)
+    let n = bytes_in(word(line, 1), &mut bytes)?;
+    let handed = cellweaver::read(&bytes[..n]);
+    *design = handed.design;
+    let Numbered(number, position) = said(handed.reply);
+    Ok(writeln!(text, "read {number} {position} {}", Told(handed.design)))
 }
 
-// `edit turn T` and `edit need K CLBS RAMS MULTIPLIERS`: edits the design; the one handed back is then held:
-// edit NUMBER DESIGN WORK
-fn edit(line: &[u8], design: Design, work: &mut [u8]) -> Answer
-    ensures { result.count ≤ 3 }
-{
-    match edit_in(line) {
-        Asked::Edit(edit) => handed_back(
-            cellweaver::edit(design, edit, work),
-            1,
-            Shown::DesignAndWork,
-        ),
-        Asked::Bad(why) => no_answer(design, why),
+// `edit turn T` and `edit need K CLBS RAMS MULTIPLIERS`: edits the design: edit NUMBER DESIGN WORK
+fn edit(
+    line: &[u8],
+    design: &mut Design,
+    work: &mut [u8],
+    text: &mut Text,
+) -> Result<fmt::Result, Why> {
+    let handed = cellweaver::edit(*design, edit_in(line)?, work);
+    *design = handed.design;
+    let Numbered(number, _) = said(handed.reply);
+    let told = Told(handed.design);
+    Ok(writeln!(text, "edit {number} {told} {}", Hash(work)))
+}
+
+// Lists: list NUMBER WORK
+fn list(design: Design, work: &mut [u8], text: &mut Text) -> fmt::Result {
+    let Numbered(number, _) = said(cellweaver::list(design, work));
+    writeln!(text, "list {number} {}", Hash(work))
+}
+
+// Checks: check NUMBER WHICH
+fn check(design: Design, rows: &[u8], text: &mut Text) -> fmt::Result {
+    let Numbered(number, which) = said(cellweaver::check(design, rows));
+    writeln!(text, "check {number} {which}")
+}
+
+// What a plan or a place comes to, whose rows are shown if it is done: NAME NUMBER W H ROWS WORK
+fn put_planned(
+    name: &str,
+    planned: Result<Shape, Refusal>,
+    rows: &[u8],
+    work: &[u8],
+    text: &mut Text,
+) -> fmt::Result {
+    match planned {
+        Ok(s) => {
+            write!(text, "{name} 0 {} {} {}", s.w.0, s.h.0, Hex(rows))?;
+        }
+        Err(e) => write!(text, "{name} {} 0 0 -", number_of(e).0)?,
+    }
+    writeln!(text, " {}", Hash(work))
+}
+
+// Why a line asks nothing: its first word is that of no request, or it has more or fewer words than the request.
+fn why_unknown(line: &[u8]) -> Why {
+    match word(line, 0) {
+        b"read" | b"write" | b"list" | b"plan" | b"place" | b"edit" | b"check" | b"slot" => {
+            Why::WrongCount
+        }
+        _ if is_kept(line) => Why::WrongCount,
+        _ => Why::NoRequest,
     }
 }
 
-// Asks the service.
-fn ask(service: Service, line: &[u8], design: Design, work: &mut [u8], rows: &mut [u8]) -> Answer
-    ensures { result.count ≤ 3 }
-{
-    match service {
-        Service::Read => read(line, design),
-        Service::List => replied(design, cellweaver::list(design, work), 1, Shown::Work),
-        Service::Plan => planned(design, cellweaver::plan(design, work, rows)),
-        Service::Place => planned(design, cellweaver::place(design, work, rows)),
-        Service::Edit => edit(line, design, work),
-        Service::Check => replied(design, cellweaver::check(design, rows), 2, Shown::Nothing),
-        _ => no_answer(design, why_unknown(line)),
-    }
-}
-
-// Asks the service that a line names, over the design that is held and the bytes that are lent, and puts its answer into `out`;
-// a line that names none is bad.
+// Asks the service that a line names, over the design that is held and the bytes that are lent, and puts its answer; a line that
+// names none is bad. A score may have any number of words, so its name alone tells it.
 pub fn answer(
     line: &[u8],
-    number: usize,
-    design: Design,
+    design: &mut Design,
     work: &mut [u8],
     rows: &mut [u8],
-    out: &mut [u8],
-) -> Answered
-    ensures { result.length ≤ length out.new }
-{
-    let service = service_in(line);
-    if let Service::Write = service {
-        let length = write(line, number, design, out);
-        return Answered { design, length };
+    text: &mut Text,
+) -> Result<fmt::Result, Why> {
+    match (word(line, 0), count(line)) {
+        (b"read", 2) => read(line, design, text),
+        (b"write", 3) => write(line, *design, text),
+        (b"list", 1) => Ok(list(*design, work, text)),
+        (b"plan", 1) => {
+            let planned = cellweaver::plan(*design, work, rows);
+            Ok(put_planned("plan", planned, rows, work, text))
+        }
+        (b"place", 1) => {
+            let placed = cellweaver::place(*design, work, rows);
+            Ok(put_planned("place", placed, rows, work, text))
+        }
+        (b"edit", 3 | 6) => edit(line, design, work, text),
+        (b"check", 1) => Ok(check(*design, rows, text)),
+        (b"slot", 4) => look(line, *design, work, text),
+        (b"score", _) => score(line, *design, rows, text),
+        _ => Err(why_unknown(line)),
     }
-    if let Service::Slot = service {
-        let length = look(line, number, design, work, out);
-        return Answered { design, length };
-    }
-    if let Service::Score = service {
-        let length = score(line, number, design, rows, out);
-        return Answered { design, length };
-    }
-    let answer = ask(service, line, design, work, rows);
-    let design = answer.design;
-    let why = answer.why;
-    if is_fine(why) {
-        let length = put_answer(out, word(line, 0), answer, rows, work);
-        return Answered { design, length };
-    }
-    let length = put_bad(number, why, out);
-    Answered { design, length }
 }

@@ -1,30 +1,24 @@
 // `write N F`: writes the held design into n bytes f, which are shown if it is done: write NUMBER COUNT BYTES
-ghost use Rattle.std.specs.Prelude.{◌≤◌, length};
-
-use crate::answers::{put_answer, put_bad, written};
-use rules::Design;
-use words::{is_fine, lend, word};
+use replies::number_of;
+use rules::{Design, Refusal};
+use std::fmt;
+use std::fmt::Write;
+use telling::{Hex, Text};
+use words::{Why, lend};
 
 // The most bytes that a `write` has.
 const MOST_WRITTEN: usize = 4096;
 
 // Writes a design, and puts the answer.
-fn write_to(bytes: &mut [u8], name: &[u8], design: Design, out: &mut [u8]) -> usize
-    ensures { result ≤ length out.new }
-{
-    let answer = written(design, cellweaver::write(design, bytes));
-    put_answer(out, name, answer, bytes, b"")
+fn write_to(bytes: &mut [u8], design: Design, text: &mut Text) -> fmt::Result {
+    match cellweaver::write(design, bytes) {
+        Ok(n) => writeln!(text, "write 0 {n} {}", Hex(bytes)),
+        Err(e) => writeln!(text, "write {} 0 -", number_of(e).0),
+    }
 }
 
-pub fn write(line: &[u8], number: usize, design: Design, out: &mut [u8]) -> usize
-    ensures { result ≤ length out.new }
-{
+pub fn write(line: &[u8], design: Design, text: &mut Text) -> Result<fmt::Result, Why> {
     let mut bytes = [0u8; MOST_WRITTEN];
-    let lent = lend(line, &mut bytes);
-    let why = lent.why;
-    if !is_fine(why) {
-        return put_bad(number, why, out);
-    }
-    let n = lent.n;
-    write_to(&mut bytes[0..n], word(line, 0), design, out)
+    let n = lend(line, &mut bytes)?;
+    Ok(write_to(&mut bytes[..n], design, text))
 }

@@ -1,5 +1,5 @@
 // What a line asks to be held or lent.
-use words::{is_among, request_among};
+use words::{count, word};
 
 #[derive(Clone, Copy)]
 pub enum Request {
@@ -9,28 +9,25 @@ pub enum Request {
     Poke,
     Rows,
     Row,
-    Other,
 }
 
-// The request that a line makes.
-pub fn request_in(line: &[u8]) -> Request {
-    if line.len() == 0 {
-        return Request::Nothing;
-    }
-    if line[0] == b'#' {
-        return Request::Nothing;
-    }
-    match request_among(b"8design 3work 3poke 3rows 3row", line) {
-        0 => Request::Design,
-        1 => Request::Work,
-        2 => Request::Poke,
-        3 => Request::Rows,
-        4 => Request::Row,
-        _ => Request::Other,
+// The request that a line makes, if it asks to hold or to lend something.
+pub fn request_in(line: &[u8]) -> Option<Request> {
+    match (word(line, 0), count(line)) {
+        ([b'#', ..], _) | ([], 1) => Some(Request::Nothing),
+        (b"design", 8) => Some(Request::Design),
+        (b"work", 3) => Some(Request::Work),
+        (b"poke", 3) => Some(Request::Poke),
+        (b"rows", 3) => Some(Request::Rows),
+        (b"row", 3) => Some(Request::Row),
+        _ => None,
     }
 }
 
 // Whether a line's first word is that of a request to hold or to lend something.
 pub fn is_kept(line: &[u8]) -> bool {
-    is_among(b"8design 3work 3poke 3rows 3row", line)
+    matches!(
+        word(line, 0),
+        b"design" | b"work" | b"poke" | b"rows" | b"row"
+    )
 }

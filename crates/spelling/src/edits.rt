@@ -1,54 +1,32 @@
 // The edit that a line says: `edit turn T`, or `edit need K CLBS RAMS MULTIPLIERS`.
-use check::same;
 use rules::{Edit, Need};
-use words::{Why, count, is_fine, number_in, numbers_in, word, words};
-
-// An edit, if a line says one.
-#[derive(Clone, Copy)]
-pub enum Asked {
-    Edit(Edit),
-    Bad(Why),
-}
+use words::{Why, count, number_in, numbers_in, word, words};
 
 // T, the word after `turn`.
-fn turn_in(line: &[u8]) -> Asked {
-    if !same(word(line, 1), b"turn") {
-        return Asked::Bad(Why::NoRequest);
-    }
-    let position = number_in(word(line, 2));
-    let why = position.why;
-    if !is_fine(why) {
-        return Asked::Bad(why);
-    }
-    Asked::Edit(Edit::Turn {
-        position: position.n,
-    })
+fn turn_in(line: &[u8]) -> Result<Edit, Why> {
+    let position = number_in(word(line, 2))?;
+    Ok(Edit::Turn { position })
 }
 
 // K CLBS RAMS MULTIPLIERS, the words after `need`.
-fn need_in(line: &[u8]) -> Asked {
-    if !same(word(line, 1), b"need") {
-        return Asked::Bad(Why::NoRequest);
-    }
+fn need_in(line: &[u8]) -> Result<Edit, Why> {
     let mut said = [0usize; 4];
-    let why = numbers_in(b' ', words(line, 2, 5), &mut said);
-    if !is_fine(why) {
-        return Asked::Bad(why);
-    }
-    let module = said[0];
+    numbers_in(b' ', words(line, 2, 5), &mut said)?;
+    let [module, clbs, rams, multipliers] = said;
     let need = Need {
-        clbs: said[1],
-        rams: said[2],
-        multipliers: said[3],
+        clbs,
+        rams,
+        multipliers,
     };
-    Asked::Edit(Edit::Change { module, need })
+    Ok(Edit::Change { module, need })
 }
 
 // The edit in a line whose first word is `edit`, by how many words it has.
-pub fn edit_in(line: &[u8]) -> Asked {
-    match count(line) {
-        3 => turn_in(line),
-        6 => need_in(line),
-        _ => Asked::Bad(Why::WrongCount),
+pub fn edit_in(line: &[u8]) -> Result<Edit, Why> {
+    match (count(line), word(line, 1)) {
+        (3, b"turn") => turn_in(line),
+        (6, b"need") => need_in(line),
+        (3 | 6, _) => Err(Why::NoRequest),
+        _ => Err(Why::WrongCount),
     }
 }

@@ -1,233 +1,141 @@
-// The terms and nets that a line says after its first word, put into lent places. There are places for one term, one net and
-// in each net one member more than a score may have, so that the service sees what is too many; what has no place is judged as
-// words all the same.
-ghost use Rattle.spelling.specs.Placed.{Placed};
+// The terms and nets that a line says after its first word, put into places. There are places for one term, one net and in each
+// net one member more than a score may have, so that the service sees what is too many; what has no place is judged as words all
+// the same.
+ghost use Rattle.std.specs.Prelude.{◌≡◌, ◌≤◌, take};
+ghost use Rattle.spelling.specs.Placed.{term_places, net_places};
 
-use check::same;
 use rules::{MOST_MODULES, MOST_NETS, MOST_TERMS};
-use telling::put_byte;
-use words::{Why, is_fine, next_of, number_in, weight_in};
+use words::{Why, number_in, weight_in};
 
-pub const TERM_PLACES: usize = MOST_TERMS + 1;
+const TERM_PLACES: usize = MOST_TERMS + 1;
 
 // A net takes a byte for the number of its members, and one for each.
-pub const NET_PLACES: usize = (MOST_NETS + 1) * (MOST_MODULES + 2);
+const NET_PLACES: usize = (MOST_NETS + 1) * (MOST_MODULES + 2);
 
-// The kinds of terms are 0 to 2.
-const KINDS: u8 = 3;
-
-// How many terms and how many bytes of nets are put, where the last net stands, and how many members it has.
+// stays: no heap, so there are fixed places with the number that is put beside them; kinds are numbers as score_slices has them.
+// Terms and nets in their places: how many terms and how many bytes of nets are put, and where the last net stands.
 #[derive(Clone, Copy)]
-pub struct Put {
-    pub terms: usize,
-    pub bytes: usize,
+pub struct Places {
+    kinds: [u8; TERM_PLACES],
+    weights: [f64; TERM_PLACES],
+    terms: usize,
+    nets: [u8; NET_PLACES],
+    bytes: usize,
     net: usize,
-    members: usize,
+    ghost of_terms: { terms ≤ term_places },
+    ghost of_nets: { bytes ≤ net_places },
+    ghost of_last: { net ≤ net_places },
 }
 
-// What the next word is to be: one that begins a term or a net, a term's weight, or a member, which may as well be one that
-// begins something.
+impl Places {
+    fn new() -> Places {
+        Places {
+            kinds: [0; TERM_PLACES],
+            weights: [0.0; TERM_PLACES],
+            terms: 0,
+            nets: [0; NET_PLACES],
+            bytes: 0,
+            net: 0,
+        }
+    }
+
+    // The terms' kinds: 0 area, 1 ratio, 2 wire.
+    pub fn kinds(&self) -> &[u8]
+        ensures { result.now ≡ take self.now.terms self.now.kinds }
+    {
+        &self.kinds[..self.terms]
+    }
+
+    // Their weights.
+    pub fn weights(&self) -> &[f64]
+        ensures { result.now ≡ take self.now.terms self.now.weights }
+    {
+        &self.weights[..self.terms]
+    }
+
+    // The nets, one after another.
+    pub fn nets(&self) -> &[u8]
+        ensures { result.now ≡ take self.now.bytes self.now.nets }
+    {
+        &self.nets[..self.bytes]
+    }
+
+    fn add_term(&mut self, kind: u8, weight: f64) {
+        let at = self.terms;
+        if at < TERM_PLACES {
+            self.kinds[at] = kind;
+            self.weights[at] = weight;
+            self.terms = at + 1;
+        }
+    }
+
+    fn add_byte(&mut self, b: u8) {
+        let at = self.bytes;
+        if at < NET_PLACES {
+            self.nets[at] = b;
+            self.bytes = at + 1;
+        }
+    }
+
+    // One net more, still without members.
+    fn add_net(&mut self) {
+        self.net = self.bytes;
+        self.add_byte(0);
+    }
+
+    // One member more in the last net, which is not put once there are too many. One that is no byte is no module either, and
+    // neither is the greatest byte.
+    fn add_member(&mut self, module: usize) {
+        let Some(count) = self.nets.get_mut(self.net) else {
+            return;
+        };
+        if *count as usize <= MOST_MODULES {
+            *count += 1;
+            self.add_byte(u8::try_from(module).unwrap_or(u8::MAX));
+        }
+    }
+
+    // Takes a word, and says what the next one is to be.
+    fn take(&mut self, expected: Expected, word: &[u8]) -> Result<Expected, Why> {
+        match (expected, word) {
+            (Expected::Weight(kind), _) => {
+                self.add_term(kind, weight_in(word)?);
+                Ok(Expected::Begin)
+            }
+            (_, b"area") => Ok(Expected::Weight(0)),
+            (_, b"ratio") => Ok(Expected::Weight(1)),
+            (_, b"wire") => Ok(Expected::Weight(2)),
+            (_, b"net") => {
+                self.add_net();
+                Ok(Expected::Member)
+            }
+            (Expected::Member, _) => {
+                self.add_member(number_in(word)?);
+                Ok(Expected::Member)
+            }
+            (Expected::Begin, _) => Err(Why::NoRequest),
+        }
+    }
+}
+
+// What the next word is to be: one that begins a term or a net, the weight of a term of this kind, or a member, which may as well
+// be one that begins something.
 #[derive(Clone, Copy)]
 enum Expected {
     Begin,
-    Weight,
+    Weight(u8),
     Member,
 }
 
-// What is put of the words so far, or why they are wrong, and what the next one is to be.
-#[derive(Clone, Copy)]
-pub struct Taken {
-    pub why: Why,
-    pub put: Put,
-    expected: Expected,
-}
-
-fn nothing_taken() -> Taken
-    ensures { Placed result.put }
-{
-    let put = Put {
-        terms: 0,
-        bytes: 0,
-        net: 0,
-        members: 0,
-    };
-    going(put, Expected::Begin)
-}
-
-fn going(put: Put, expected: Expected) -> Taken
-    requires { Placed put }
-    ensures { Placed result.put }
-{
-    Taken {
-        why: Why::Fine,
-        put,
-        expected,
+// Takes the words after a line's first, from the left, up to one that is wrong. At the line's end no weight may be left to come.
+pub fn score_in(line: &[u8]) -> Result<Places, Why> {
+    let mut places = Places::new();
+    let mut expected = Expected::Begin;
+    for word in line.split(|b| *b == b' ').skip(1) {
+        expected = places.take(expected, word)?;
     }
-}
-
-fn wrong(put: Put, why: Why) -> Taken
-    requires { Placed put }
-    ensures { Placed result.put }
-{
-    Taken {
-        why,
-        put,
-        expected: Expected::Begin,
-    }
-}
-
-// The kind that a word names, or how many there are.
-fn kind_of(word: &[u8]) -> u8 {
-    if same(word, b"area") {
-        return 0;
-    }
-    if same(word, b"ratio") {
-        return 1;
-    }
-    if same(word, b"wire") {
-        return 2;
-    }
-    KINDS
-}
-
-// The weight that a term's kind was put for: with it there is one term more.
-fn with_weight(put: Put, word: &[u8], weights: &mut [f64; TERM_PLACES]) -> Taken
-    requires { Placed put }
-    ensures { Placed result.put }
-{
-    let weight = weight_in(word);
-    let why = weight.why;
-    if !is_fine(why) {
-        return wrong(put, why);
-    }
-    let at = put.terms;
-    if at == TERM_PLACES {
-        return going(put, Expected::Begin);
-    }
-    weights[at] = weight.value;
-    let mut put = put;
-    put.terms = at + 1;
-    going(put, Expected::Begin)
-}
-
-// One net more, still without members.
-fn with_net(put: Put, nets: &mut [u8; NET_PLACES]) -> Taken
-    requires { Placed put }
-    ensures { Placed result.put }
-{
-    let at = put.bytes;
-    let mut put = put;
-    put.net = at;
-    put.members = 0;
-    put.bytes = put_byte(nets, at, 0);
-    going(put, Expected::Member)
-}
-
-// A member as a byte: one that is greater is no module either.
-fn byte_of(member: usize) -> u8 {
-    if member > 255 {
-        return 255;
-    }
-    member as u8
-}
-
-// One member more in the last net, which is not put once there are too many.
-fn with_member(put: Put, word: &[u8], nets: &mut [u8; NET_PLACES]) -> Taken
-    requires { Placed put }
-    ensures { Placed result.put }
-{
-    let said = number_in(word);
-    let why = said.why;
-    if !is_fine(why) {
-        return wrong(put, why);
-    }
-    if put.members > MOST_MODULES {
-        return going(put, Expected::Member);
-    }
-    let members = put.members + 1;
-    put_byte(nets, put.net, members as u8);
-    let mut put = put;
-    put.members = members;
-    put.bytes = put_byte(nets, put.bytes, byte_of(said.n));
-    going(put, Expected::Member)
-}
-
-// A word that need not be a weight.
-fn with_other(
-    put: Put,
-    in_net: bool,
-    word: &[u8],
-    kinds: &mut [u8; TERM_PLACES],
-    nets: &mut [u8; NET_PLACES],
-) -> Taken
-    requires { Placed put }
-    ensures { Placed result.put }
-{
-    let kind = kind_of(word);
-    if kind < KINDS {
-        put_byte(kinds, put.terms, kind);
-        return going(put, Expected::Weight);
-    }
-    if same(word, b"net") {
-        return with_net(put, nets);
-    }
-    if in_net {
-        return with_member(put, word, nets);
-    }
-    wrong(put, Why::NoRequest)
-}
-
-fn with_word(
-    taken: Taken,
-    word: &[u8],
-    kinds: &mut [u8; TERM_PLACES],
-    weights: &mut [f64; TERM_PLACES],
-    nets: &mut [u8; NET_PLACES],
-) -> Taken
-    requires { Placed taken.put }
-    ensures { Placed result.put }
-{
-    let put = taken.put;
-    let expected = taken.expected;
     match expected {
-        Expected::Weight => with_weight(put, word, weights),
-        Expected::Begin => with_other(put, false, word, kinds, nets),
-        Expected::Member => with_other(put, true, word, kinds, nets),
+        Expected::Weight(_) => Err(Why::WrongCount),
+        Expected::Begin | Expected::Member => Ok(places),
     }
-}
-
-// At the line's end no weight may be left to come.
-fn at_end(taken: Taken) -> Taken
-    requires { Placed taken.put }
-    ensures { Placed result.put }
-{
-    let put = taken.put;
-    let expected = taken.expected;
-    if let Expected::Weight = expected {
-        return wrong(put, Why::WrongCount);
-    }
-    going(put, Expected::Begin)
-}
-
-// Takes the words after a line's first, from the left, up to one that is wrong.
-pub fn score_in(
-    line: &[u8],
-    kinds: &mut [u8; TERM_PLACES],
-    weights: &mut [f64; TERM_PLACES],
-    nets: &mut [u8; NET_PLACES],
-) -> Taken
-    ensures { Placed result.put }
-{
-    let mut taken = nothing_taken();
-    let mut end = next_of(b' ', line, 0);
-    while end < line.len() {
-        let start = end + 1;
-        end = next_of(b' ', line, start);
-        taken = with_word(taken, &line[start..end], kinds, weights, nets);
-        let why = taken.why;
-        if !is_fine(why) {
-            return taken;
-        }
-    }
-    at_end(taken)
 }

@@ -1,135 +1,81 @@
-// A design put into lent bytes, as telling puts its parts: W H B KINDS M NEEDS TOKENS. Each row is shown whole: as many places as
-// the design has, and more where they are not zero.
-ghost use Rattle.std.specs.Prelude.{◌≤◌, length};
+// A design as a line says it, which `Display` puts: W H B KINDS M NEEDS TOKENS. Each row is shown whole: as many places as the
+// design has, and more where they are not zero.
+ghost use Rattle.std.specs.Prelude.{◌≤◌};
 
 use crate::{MOST_NUMBERS, NEED_NUMBERS};
-use rules::{Chip, Design, MOST_MODULES, MOST_TOKENS, Need};
-use telling::{put_hex, put_number, put_numbers, put_word};
+use rules::{Chip, Design, MOST_MODULES, Need};
+use std::fmt;
+use std::fmt::Write;
+use telling::Hex;
 
-// How many bytes are left without the zeros at the end.
-fn trimmed(bytes: &[u8]) -> usize
-    ensures { result ≤ length bytes.now }
-{
-    let mut n = bytes.len();
-    while n > 0 {
-        if bytes[n - 1] != 0 {
-            return n;
-        }
-        n -= 1;
-    }
-    n
-}
+#[derive(Clone, Copy)]
+pub struct Told(pub Design);
 
-// How many numbers are left without the zeros at the end.
-fn trimmed_numbers(numbers: &[usize]) -> usize
-    ensures { result ≤ length numbers.now }
-{
-    let mut n = numbers.len();
-    while n > 0 {
-        if numbers[n - 1] != 0 {
-            return n;
-        }
-        n -= 1;
-    }
-    n
-}
+// Numbers with commas between, `-` for none.
+#[derive(Clone, Copy)]
+struct List<'a>(&'a [usize]);
 
-// The greater of two counts, the second cut off at how many places there are.
-fn shown(nonzero: usize, whole: usize, places: usize) -> usize
-    requires { nonzero ≤ places }
-    ensures { result ≤ places }
-{
-    if places <= whole {
-        return places;
-    }
-    if whole < nonzero {
-        return nonzero;
-    }
-    whole
-}
-
-// Puts bytes in hexadecimal: so many, if there are, and more up to the last that is not zero.
-fn put_row(out: &mut [u8], at: usize, row: &[u8], whole: usize) -> usize
-    requires { at ≤ length out.old }
-    ensures { result ≤ length out.new }
-{
-    let n = shown(trimmed(row), whole, row.len());
-    put_hex(out, at, &row[0..n])
-}
-
-// Puts numbers with commas between, as many as of bytes, a space before them; `-` for none.
-fn put_list(out: &mut [u8], at: usize, numbers: &[usize], whole: usize) -> usize
-    requires { at ≤ length out.old }
-    ensures { result ≤ length out.new }
-{
-    let n = shown(trimmed_numbers(numbers), whole, numbers.len());
-    if n == 0 {
-        return put_word(out, at, b" -");
-    }
-    let next = put_number(out, at, b' ', numbers[0]);
-    put_numbers(out, next, b',', &numbers[1..n])
+// A row's first places: so many, if there are, and more up to the last that is not zero.
+fn shown<T: Copy + Default + PartialEq>(row: &[T], whole: usize) -> &[T] {
+    let zero = T::default();
+    let nonzero = match row.iter().rposition(|x| *x != zero) {
+        Some(last) => last + 1,
+        None => 0,
+    };
+    &row[..whole.max(nonzero).min(row.len())]
 }
 
 // The numbers of the needs, three for each module.
-fn numbers_of(needs: [Need; MOST_MODULES]) -> [usize; MOST_NUMBERS] {
+fn numbers_of(needs: &[Need; MOST_MODULES]) -> [usize; MOST_NUMBERS] {
     let mut numbers = [0usize; MOST_NUMBERS];
-    for k in 0..MOST_MODULES {
-        let first = NEED_NUMBERS * k;
-        let need = needs[k];
-        numbers[first] = need.clbs;
-        numbers[first + 1] = need.rams;
-        numbers[first + 2] = need.multipliers;
+    let (places, _) = numbers.as_chunks_mut::<NEED_NUMBERS>();
+    for (place, need) in places.iter_mut().zip(needs) {
+        *place = [need.clbs, need.rams, need.multipliers];
     }
     numbers
-}
-
-// Puts a design's chip: W H B KINDS
-fn put_chip(out: &mut [u8], at: usize, chip: Chip) -> usize
-    requires { at ≤ length out.old }
-    ensures { result ≤ length out.new }
-{
-    let sizes = [chip.width.0, chip.height.0, chip.block.0];
-    let kinds = chip.kinds;
-    let next = put_numbers(out, at, b' ', &sizes);
-    put_row(out, next, &kinds, chip.width.0)
 }
 
 // How many tokens a design of so many modules has, of the places that there are.
 pub fn token_count(modules: usize) -> usize
     ensures { result ≤ 31 }
 {
-    if modules == 0 {
-        return 0;
-    }
-    if modules > MOST_MODULES {
-        return MOST_TOKENS;
-    }
-    2 * modules - 1
+    (2 * modules.min(MOST_MODULES)).saturating_sub(1)
 }
 
-// Puts the needs of so many modules: NEEDS
-fn put_needs(out: &mut [u8], at: usize, modules: usize, needs: [Need; MOST_MODULES]) -> usize
-    requires { at ≤ length out.old }
-    ensures { result ≤ length out.new }
-{
-    let numbers = numbers_of(needs);
-    if modules > MOST_MODULES {
-        return put_list(out, at, &numbers, MOST_NUMBERS);
+impl<'a> fmt::Display for List<'a> {
+    fn fmt<W: Write>(&self, f: &mut fmt::Formatter<W>) -> fmt::Result {
+        let [first, rest @ ..] = self.0 else {
+            return write!(f, "-");
+        };
+        write!(f, "{first}")?;
+        for n in rest {
+            write!(f, ",{n}")?;
+        }
+        Ok(())
     }
-    put_list(out, at, &numbers, NEED_NUMBERS * modules)
 }
 
-// Puts a design: its chip, then M NEEDS TOKENS
-pub fn put_design(out: &mut [u8], at: usize, design: Design) -> usize
-    requires { at ≤ length out.old }
-    ensures { result ≤ length out.new }
-{
-    let chip = design.chip;
-    let needs = design.needs;
-    let tokens = design.tokens;
+// W H B KINDS
+fn put_chip<W: Write>(f: &mut fmt::Formatter<W>, chip: &Chip) -> fmt::Result {
+    let width = chip.width.0;
+    let kinds = Hex(shown(&chip.kinds, width));
+    write!(f, "{width} {} {} {kinds}", chip.height.0, chip.block.0)
+}
+
+// M NEEDS
+fn put_needs<W: Write>(f: &mut fmt::Formatter<W>, design: &Design) -> fmt::Result {
     let modules = design.modules;
-    let next = put_chip(out, at, chip);
-    let next = put_number(out, next, b' ', modules);
-    let next = put_needs(out, next, modules, needs);
-    put_row(out, next, &tokens, token_count(modules))
+    let numbers = numbers_of(&design.needs);
+    let needs = List(shown(&numbers, NEED_NUMBERS * modules.min(MOST_MODULES)));
+    write!(f, "{modules} {needs}")
+}
+
+impl fmt::Display for Told {
+    fn fmt<W: Write>(&self, f: &mut fmt::Formatter<W>) -> fmt::Result {
+        put_chip(f, &self.0.chip)?;
+        write!(f, " ")?;
+        put_needs(f, &self.0)?;
+        let tokens = Hex(shown(&self.0.tokens, token_count(self.0.modules)));
+        write!(f, " {tokens}")
+    }
 }

@@ -1,7 +1,9 @@
 // Why a line is bad.
-#[derive(Clone, Copy)]
+use std::fmt;
+use std::fmt::Write;
+
+#[derive(Clone, Copy, PartialEq, Eq)]
 pub enum Why {
-    Fine,
     NoRequest,
     WrongCount,
     NoNumber,
@@ -10,11 +12,15 @@ pub enum Why {
     TooLong,
 }
 
-pub fn is_fine(why: Why) -> bool {
-    if let Why::Fine = why { true } else { false }
-}
-
-// The first of two that is wrong.
-pub fn first_wrong(a: Why, b: Why) -> Why {
-    if is_fine(a) { b } else { a }
+impl fmt::Display for Why {
+    fn fmt<W: Write>(&self, f: &mut fmt::Formatter<W>) -> fmt::Result {
+        f.write_str(match self {
+            Why::NoRequest => "no such request",
+            Why::WrongCount => "wrong number of words",
+            Why::NoNumber => "not a number",
+            Why::NoBytes => "not bytes",
+            Why::NoRoom => "more than there is",
+            Why::TooLong => "too long",
+        })
+    }
 }

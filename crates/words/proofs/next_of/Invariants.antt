@@ -1,9 +1,0 @@
--- The search stays between where it began and the end. The measure is how much is left. Assumes nothing.
-use Rattle.std.proofs.Common.{◌-◌, ◌≤◌, length}
-use Rattle.words.proofs.next_of.Given as goal
-
-abbrev pub invariant-loop-at : goal.invariant-loop-at
-invariant-loop-at l = (l.from ≤ l.at) × (l.at ≤ length l.s)
-
-abbrev pub decreases-loop-at : goal.decreases-loop-at
-decreases-loop-at l = length l.s - l.at
