@@ -16,6 +16,6 @@ pub fn run_plan(rt: &(impl Input + Print + Eprint)) {
         return;
     }
     let mut text = [0u8; TEXT_SIZE];
-    let length = plan_input(&input, taken.count, &mut text);
+    let length = plan_input(&input[..taken.count], &mut text);
     write_or_say(rt, &text[..length]);
 }
