@@ -22,7 +22,7 @@ pub record Runs (bytes : List ℕ) (work rows out : Lent) (count : ℕ) : Type 0
   pub answers : Answers handed work rows planned
   pub prints : Put out.came 0 (plan_text planned handed.design.modules rows.left) count out.left
 
--- The program reads as many bytes at most as its input has, and `read` are those it read: the text for these is put, over work and
+-- The program reads at most so many bytes as it has to, and `read` are those that it read: the text for these is put, over work and
 -- rows that are zeros.
 pub record PlansInput (most : ℕ) (read : List ℕ) (out : Lent) (count : ℕ) : Type 0 where
   pub size : most ≡ program_input
