@@ -73,15 +73,16 @@ impl<'a> Reading<'a> {
             return;
         }
         self.input.copy_within(self.from..self.to, 0);
-        let taken = take_some(&mut rt.reader(), &mut self.input[left..]);
         self.from = 0;
         self.end = left;
-        self.to = left + taken.count;
-        if let Some(why) = taken.failed {
-            say_unread(rt, why);
-            self.source = Source::Failed;
-        } else if taken.count == 0 {
-            self.source = Source::Over;
+        self.to = left;
+        match take_some(&mut rt.reader(), &mut self.input[left..]) {
+            Ok(0) => self.source = Source::Over,
+            Ok(more) => self.to = left + more,
+            Err(why) => {
+                say_unread(rt, why);
+                self.source = Source::Failed;
+            }
         }
     }
 

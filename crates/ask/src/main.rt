@@ -32,7 +32,7 @@ fn answer(
     } else {
         serve(reading.line(), number, held, &mut text)
     };
-    put.is_ok() && write_or_say(rt, text.said())
+    put.is_ok() && write_or_say(rt, text.said()).is_ok()
 }
 
 // Reads a line and serves it, if there is one, and says whether to go on.

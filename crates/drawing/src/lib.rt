@@ -19,7 +19,7 @@ use rules::{Design, MOST_COLUMNS, MOST_ROWS, Refusal, Shape};
 use sketching::sketch;
 use std::fmt;
 use std::io::Stdout;
-use taking::{say_unread, take_all};
+use taking::take_or_say;
 
 // More bytes than a header, a design and a plan's text have.
 const INPUT_SIZE: usize = 8_192;
@@ -97,11 +97,8 @@ pub fn draw(out: Stdout, input: &[u8], line: &mut [u8]) -> fmt::Result {
 pub fn run_draw(rt: HostRuntime) {
     let mut input = [0u8; INPUT_SIZE];
     let mut line = [0u8; LINE_SIZE];
-    let taken = take_all(&mut rt.reader(), &mut input);
-    if let Some(why) = taken.failed {
-        say_unread(&rt, why);
-    }
-    if draw(rt.stdout(), &input[..taken.count], &mut line).is_err() {
+    let (Ok(read) | Err(read)) = take_or_say(&rt, &mut input);
+    if draw(rt.stdout(), read, &mut line).is_err() {
         let _ = rt.eprintln("draw: a line could not be written");
     }
 }

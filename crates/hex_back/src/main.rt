@@ -3,7 +3,7 @@
 // be read.
 #![tactic(auto)]
 
-use taking::{say_unread, take_all, write_or_say};
+use taking::{take_or_say, write_or_say};
 use telling::Text;
 use typed::answer_back;
 
@@ -17,14 +17,11 @@ const TEXT_SIZE: usize = 64 * BYTES_SIZE;
 
 fn main(rt: HostRuntime) {
     let mut bytes = [0u8; BYTES_SIZE];
-    let taken = take_all(&mut rt.reader(), &mut bytes);
-    if let Some(why) = taken.failed {
-        say_unread(&rt, why);
+    let Ok(bytes) = take_or_say(&rt, &mut bytes) else {
         return;
-    }
-    let count = taken.count;
+    };
     let mut out = [0u8; TEXT_SIZE];
     let mut answer = Text::new(&mut out);
-    answer_back(&bytes[0..count], MOST_BYTES, &mut answer);
-    write_or_say(&rt, answer.said());
+    answer_back(bytes, MOST_BYTES, &mut answer);
+    let _ = write_or_say(&rt, answer.said());
 }

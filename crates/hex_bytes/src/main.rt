@@ -2,7 +2,7 @@
 // follow; or r, and a line follows that says what is wrong. There is no output where the input could not be read.
 #![tactic(auto)]
 
-use taking::{say_unread, take_all, write_or_say};
+use taking::{take_or_say, write_or_say};
 use telling::Text;
 use typed::answer_text;
 
@@ -13,14 +13,11 @@ const MOST_TEXT: usize = TEXT_SIZE - 1;
 
 fn main(rt: HostRuntime) {
     let mut text = [0u8; TEXT_SIZE];
-    let taken = take_all(&mut rt.reader(), &mut text);
-    if let Some(why) = taken.failed {
-        say_unread(&rt, why);
+    let Ok(text) = take_or_say(&rt, &mut text) else {
         return;
-    }
-    let count = taken.count;
+    };
     let mut out = [0u8; TEXT_SIZE];
     let mut answer = Text::new(&mut out);
-    answer_text(&text[0..count], MOST_TEXT, &mut answer);
-    write_or_say(&rt, answer.said());
+    answer_text(text, MOST_TEXT, &mut answer);
+    let _ = write_or_say(&rt, answer.said());
 }

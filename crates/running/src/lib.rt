@@ -4,18 +4,16 @@
 
 use printing::TEXT_SIZE;
 use program::{MOST_INPUT, plan_input};
-use taking::{say_unread, take_all, write_or_say};
+use taking::{take_or_say, write_or_say};
 
 // Reads at most 4,096 bytes of a design from standard input, and prints what plan answers. Where they could not be read it
 // prints nothing, since their front could be another design.
 pub fn run_plan(rt: &(impl Input + Print + Eprint)) {
     let mut input = [0u8; MOST_INPUT];
-    let taken = take_all(&mut rt.reader(), &mut input);
-    if let Some(why) = taken.failed {
-        say_unread(rt, why);
+    let Ok(read) = take_or_say(rt, &mut input) else {
         return;
-    }
+    };
     let mut text = [0u8; TEXT_SIZE];
-    let length = plan_input(&input[..taken.count], &mut text);
-    write_or_say(rt, &text[..length]);
+    let length = plan_input(read, &mut text);
+    let _ = write_or_say(rt, &text[..length]);
 }

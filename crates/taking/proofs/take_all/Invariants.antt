@@ -1,9 +1,9 @@
--- What was read stands inside the buffer, which keeps its number of bytes. The measure is how many bytes are free. Assumes nothing.
-use Rattle.std.proofs.Common.{◌≡◌, ◌-◌, ◌≤◌, length}
+-- What was read stands inside the buffer. The measure is how many bytes are free. Assumes nothing.
+use Rattle.std.proofs.Common.{◌-◌, ◌≤◌, length}
 use Rattle.taking.proofs.take_all.Given as goal
 
 abbrev pub invariant-loop-count : goal.invariant-loop-count
-invariant-loop-count g l = (length l.buffer ≡ length l.initial.buffer) × (l.count ≤ length l.buffer)
+invariant-loop-count g l = l.count ≤ length l.buffer
 
 abbrev pub decreases-loop-count : goal.decreases-loop-count
 decreases-loop-count g l = length l.initial.buffer - l.count

@@ -1,0 +1,2 @@
+-- What is a case.
+pub mod Case
