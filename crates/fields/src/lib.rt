@@ -61,6 +61,7 @@ fn place_of(s: &[u8], n: usize) -> usize
     ensures { result ≡ place_of s.now n }
 {
     let mut at = 0;
+    // stays: a chain of successors is no plainer; numbers are counted here and in number_from, and no slice is indexed
     for _ in 0..n {
         at = after_number(s, at);
     }
