@@ -49,7 +49,7 @@ pub fn with_column(held: Need, kind: u8, column: Need) -> Need
 }
 
 // What a rectangle on the chip holds of each kind, counted column by column.
-fn held(chip: Chip, r: Rectangle) -> Need
+pub fn held(chip: Chip, r: Rectangle) -> Need
     requires { So (lawful_chip chip) × OnChip chip.width.0 chip.height.0 r }
     ensures { result ≡ holds chip r }
 {

@@ -1,10 +1,9 @@
 // No placement: told by sums where they alone tell, of what the chip has and what the modules need.
 ghost use Rattle.std.proofs.Math.Bool.{So};
-ghost use Rattle.std.specs.Prelude.{◌≤◌};
-ghost use Rattle.rules.specs.Design.{most_columns, most_rows, lawful_chip, LawfulDesign};
+ghost use Rattle.rules.specs.Design.{lawful_chip, LawfulDesign};
 
-use holding::blocks_between;
-use rules::{Chip, Design, Need, Rows};
+use holding::held;
+use rules::{Chip, Columns, Corner, Design, Need, Rectangle, Rows, Shape};
 use std::fmt;
 use std::fmt::Write;
 use telling::Text;
@@ -24,25 +23,20 @@ impl fmt::Display for Kind {
     }
 }
 
-// How many a chip has of a kind, if a column of it holds so many.
-fn amount(chip: Chip, kind: u8, each: usize) -> usize
-    requires { (chip.width.0 ≤ most_columns) × (each ≤ most_rows) }
-{
-    let kinds = &chip.kinds[..chip.width.0];
-    each * kinds.iter().filter(|k| **k == kind).count()
-}
-
-// What the chip has.
+// What the chip has: what a rectangle over all of it holds.
 #[tactic(auto, using(rules::proofs::Limits::chip_limits))]
 fn chip_has(chip: Chip) -> Need
     requires { So (lawful_chip chip) }
 {
-    let blocks = blocks_between(chip.block, Rows(0), chip.height);
-    Need {
-        clbs: amount(chip, 0, chip.height.0),
-        rams: amount(chip, 1, blocks),
-        multipliers: amount(chip, 2, blocks),
-    }
+    let corner = Corner {
+        x: Columns(0),
+        y: Rows(0),
+    };
+    let shape = Shape {
+        w: chip.width,
+        h: chip.height,
+    };
+    held(chip, Rectangle { corner, shape })
 }
 
 // What the modules need, all together.
