@@ -1,11 +1,11 @@
 -- Bytes put behind bytes: putting one part and then another at the position after it is putting both. Assumes nothing.
-use mathlib.Core.Path.{◌≡◌, refl, ◌∙◌, ap, sym}
+use mathlib.Core.Path.{◌≡◌, refl, ◌∙◌, ap}
 use mathlib.Core.List.{List, [], ◌∷◌, ◌++◌}
 use Prim.Native.Nat.{ℕ, suc, ◌+◌, ◌≤◌}
 use native.Mathlib.Omega.{arith}
 use native.Mathlib.Nat.{zero-add, add-zero}
-use lib.ListN.{length, set, take, drop, length-append}
-use lib.Seq.{sets, length-sets, length-take-le, sets-eq}
+use lib.ListN.{length, set, drop, length-append}
+use lib.Seq.{sets, length-sets, sets-eq}
 use Rattle.putting.specs.Put.{Put}
 
 sets_append : (a b l : List ℕ) (i : ℕ) → sets (sets l i a) (i + length a) b ≡ sets l i (a ++ b)
@@ -36,10 +36,7 @@ both_put {u} {v} {w} {at} {n} {m} {a} {b} p q = record {
   stand = q.stand ∙ rw (p.stand, p.counted) (sets_append a b u at);
 }
 
--- bytes put in front: they come first, and what stood past them stays; they are as many as their count
+-- bytes put in front: they come first, and what stood past them stays
 pub put_in_front : {u v : List ℕ} {n : ℕ} {b : List ℕ} → Put u 0 b n v → v ≡ b ++ drop (length b) u
 put_in_front {u} {v} {n} {b} p =
     let c = p.counted in let i = p.inside in p.stand ∙ (rw zero-add at (sets-eq b u 0 (omega arith)))
-
-pub front_length : {u v : List ℕ} {n : ℕ} {b : List ℕ} → Put u 0 b n v → n ≡ length (take n v)
-front_length {v = v} {n = n} p = sym (length-take-le n v (ends_inside p))
