@@ -82,6 +82,7 @@ pub fn is_at_most(need: Need, held: Need) -> bool
 }
 
 // A rectangle on the chip holds what module k needs.
+#[tactic(auto, using(rules::proofs::Limits::limits, rules::proofs::Limits::lawful_chip_lem))]
 pub fn suits(design: Design, k: usize, r: Rectangle) -> bool
     requires { LawfulDesign design × (k < design.modules) × OnChip (width_of design) (height_of design) r }
     ensures { result ≡ is_suited design k r }
