@@ -29,6 +29,9 @@ no_columns H B y = record {
   held = no_need;
 }
 
+abbrev pub full_at : Chip → ℕ → Room
+full_at C y = no_columns C.height.0 C.block.0 y
+
 -- what a column adds, of its kind: to what a row can take away one, to what is held what it holds in the room's rows
 abbrev pub one_each : Need
 one_each = column_in 1 1

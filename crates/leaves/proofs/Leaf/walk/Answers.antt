@@ -22,16 +22,11 @@ kind_read : (c : In-loop-j) → let C = c.args.self.now.chip in
     get_or (between c.args.at.x.0 C.width.0 C.kinds) c.loop-j.j 0 ≡ kind_at C (c.args.at.x.0 + c.loop-j.j)
 kind_read c = let C = c.args.self.now.chip in get_or-between C.kinds c.args.at.x.0 C.width.0 c.loop-j.j 0 (on_chip c)
 
-pub no_columns-room-requires : goal.no_columns-room-requires
-no_columns-room-requires c =
-    let l = chip_limits _ c.args.self.now.lawful in let on = c.requires.corner in
-    record { block = l.some_rows; blocks = omega arith; row = omega arith; rows = l.height }
-
 pub slice_bounds-kind-items-end : goal.slice_bounds-kind-items-end
 slice_bounds-kind-items-end c = omega (arith, chip_limits _ c.args.self.now.lawful)
 
 pub loop-j-init : goal.loop-j-init
-loop-j-init c = walks_first c.args.self.now.lawful c.requires c.no_columns-room.ensures
+loop-j-init c = walks_first c.args.self.now.lawful c.requires.0 c.requires.1
 
 pub wider-requires : goal.wider-requires
 wider-requires c =
@@ -54,6 +49,6 @@ loop-j-preserved c =
 
 pub returns : goal.returns
 returns c =
-    let C = c.args.self.now.chip in let on = c.requires.corner in
+    let C = c.args.self.now.chip in let on = c.requires.0.corner in
     let long = length-between C.kinds c.args.at.x.0 C.width.0 (omega (arith, chip_limits _ c.args.self.now.lawful)) in
     walks_out c.args.self.now.lawful c.loop-j.invariant (omega (arith, c.loop-j-test.false, long))
