@@ -15,11 +15,11 @@ use Rattle.rules.specs.Design.{most_columns, most_rows}
 use Rattle.rules.proofs.Test.{across}
 use Rattle.slots.specs.declared.Board.{Board}
 use Rattle.slots.specs.Written.{Filled}
-use Rattle.slots.specs.Lent.{OnBoard, start_on, slots_on, bytes_from}
-use Rattle.slots.proofs.Filling.{one_filled, then_filled, same_length, filled_at, filled_out}
-use Rattle.slots.proofs.Lending.{slot_bytes}
-use Rattle.cuts.specs.Cut.{most_places, filled_size, chunk, corner_at, lines, places, lowered, least_of, slot_top, held_top, TailsNone, LineFilled, laid_top, Laid}
-use Rattle.cuts.proofs.Least.{least_start}
+use borrow.Rule.Slice.PartMut.{put_mid}
+use Rattle.slots.specs.Lent.{OnBoard, bytes}
+use Rattle.slots.proofs.Filling.{one_filled, then_filled, run_filled, same_length, filled_at, filled_out}
+use Rattle.cuts.specs.Cut.{most_places, filled_size, chunk, corner_at, lines, places, lowered, least_of, slot_top, held_top, TailsNone, LineFilled, SlotFilled, laid_top, Laid}
+use Rattle.cuts.proofs.Least.{least_start, least_same}
 
 -- filling: one height more
 pub least_next : (s : ℕ) (f : ℕ → ℕ) (j : ℕ) {low r : ℕ} → low ≡ least_of s f j → r ≡ lowered low (f j)
@@ -108,9 +108,9 @@ filled_laid {v} {w} {a} {k} {f} n e h h' l = record {
     go i (yes p) = inl (omega arith, filled_at e l i p)
     go i (no p) = inr (filled_out e (a + i) (inr (omega arith)))
 
--- the slot that starts there
-pub corner_filled : (board : Board) (t : ℕ) (c : Corner) (work : List ℕ) {before after : List ℕ} {to n from : ℕ}
-    → from ≡ start_on board t c
-    → Filled before to n (λ j. slot_top board.height.0 c.y.0 (bytes_from work from) (suc j)) after
-    → Filled before to n (λ j. slot_top board.height.0 c.y.0 (slots_on board work t c) (suc j)) after
-corner_filled board t c work e f = rw (slot_bytes board t c work e) at f
+-- the slot that is filled stands in the line
+pub corner_filled : (H y : ℕ) (f : ℕ → ℕ) (slot tops : List ℕ) {before : List ℕ} {a m n : ℕ} → a + n ≤ length before → m ≡ n → length tops ≡ n → length slot ≡ n
+    → ((j : ℕ) → j < n → bytes slot j ≡ f j) → SlotFilled H y slot tops → Filled before a n (λ j. slot_top H y f (suc j)) (put_mid a m before tops)
+unfolding slot_top
+corner_filled H y f slot tops l e q w same z =
+    run_filled tops l e q (λ k h. z k (omega arith) ∙ ap (λ n. y + n) (least_same (suc (H - y)) (bytes slot) f (suc k) (λ i p. same i (omega arith))))

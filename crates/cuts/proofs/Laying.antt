@@ -13,10 +13,9 @@ use lib.ListN.{get_or}
 use Rattle.rules.specs.declared.Direction.{Direction}
 use Rattle.rules.specs.declared.Direction.TheVariants.{Vertical, Horizontal}
 use Rattle.rules.specs.declared.Corner.{Corner}
-use Rattle.rules.specs.Slot.{slot}
 use Rattle.rules.proofs.Test.{across, only_if}
 use Rattle.slots.specs.declared.Board.{Board}
-use Rattle.slots.specs.Lent.{OnBoard, start_on, slots_on, Lent}
+use Rattle.slots.specs.Lent.{OnBoard, slots_on, Lent}
 use Rattle.cuts.specs.Cut.{most_places, filled_size, tops_size, places, first_right, lowered, least_of, held_top, TailsNone, has_box, greater_top, box_top, least_top, TopsAre, Pairable, laid_top, Laid}
 use Rattle.cuts.proofs.Least.{lowered_none, lowered_some, least_start}
 use Rattle.cuts.proofs.Tops.{Meets, meets_out, top_in}
@@ -104,10 +103,10 @@ module _ (d : Direction) (board : Board) (work line : List ℕ) (left : ℕ) (c 
   unfolding least_top least_of
   shapes_none z = record { long = z.long; at = z.at }
 
-  pub shapes_next : {tops after : List ℕ} {from : ℕ} (i : ℕ)
-      → from ≡ start_on board left c → TopsAre c.x.0 (after_shapes i) tops
-      → TopsAre c.x.0 (λ b. lowered (get_or tops b 0) (box_top d board (held_top line) c i (get_or work (from + i) 0) b)) after → TopsAre c.x.0 (after_shapes (i + 1)) after
-  unfolding least_top least_of slot
+  pub shapes_next : {tops after : List ℕ} {h : ℕ} (i : ℕ)
+      → h ≡ slots_on board work left c i → TopsAre c.x.0 (after_shapes i) tops
+      → TopsAre c.x.0 (λ b. lowered (get_or tops b 0) (box_top d board (held_top line) c i h b)) after → TopsAre c.x.0 (after_shapes (i + 1)) after
+  unfolding least_top least_of
   shapes_next i e z y = record { long = y.long; at = λ b h k. rw add-one (y.at b h k ∙ rw (e, z.at b h k)) }
 
   pub can_pair : {tops : List ℕ} {t : ℕ} (n : ℕ) → Lent board (suc t) work → OnBoard board c → TailsNone board line

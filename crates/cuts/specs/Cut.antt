@@ -10,7 +10,7 @@ use Rattle.rules.specs.Design.{most_columns, most_rows}
 use Rattle.rules.proofs.Test.{grid, across, only_if, list_byte, pair_test}
 use Rattle.slots.specs.declared.Board.{Board}
 use Rattle.slots.specs.Written.{Filled}
-use Rattle.slots.specs.Lent.{OnBoard, slots_on, bytes_from, Lent, SlotOn, PartOn, NodeOn}
+use Rattle.slots.specs.Lent.{OnBoard, slots_on, bytes, Lent, SlotOn, PartOn, NodeOn}
 use Rattle.cuts.specs.declared.Cut.{Cut}
 
 -- what a cut's slots ask: its children are nodes before it
@@ -76,10 +76,10 @@ least_of start f (suc n) = lowered (least_of start f n) (f n)
 unfoldable pub slot_top : ℕ → ℕ → (ℕ → ℕ) → ℕ → ℕ
 slot_top H y bytes n = y + least_of (suc (H - y)) bytes n
 
--- n bytes of a slot at row y, which stands in work from `from` on, are filled into a line from `to` on; the slot of a
--- node at a corner, whose right sides start behind `to`
-abbrev pub SlotFilled : ℕ → ℕ → List ℕ → ℕ → ℕ → ℕ → List ℕ → List ℕ → Type 0
-SlotFilled H y work from to n before after = Filled before to n (λ j. slot_top H y (bytes_from work from) (suc j)) after
+-- a slot at row y is filled into as many top sides; the slot of a node at a corner is, whose right sides start behind
+-- `to` in a line
+abbrev pub SlotFilled : ℕ → ℕ → List ℕ → List ℕ → Type 0
+SlotFilled H y slot tops = (j : ℕ) → j < length slot → get_or tops j 0 ≡ slot_top H y (bytes slot) (suc j)
 
 abbrev pub CornerFilled : Board → List ℕ → ℕ → Corner → ℕ → List ℕ → List ℕ → Type 0
 CornerFilled B work t c to before after =
@@ -199,15 +199,14 @@ abbrev pub SlotLaid : List ℕ → ℕ → ℕ → List ℕ → ℕ → ℕ → 
 SlotLaid line from top before to n after = Laid before to n (laid_top before to top line from) after
 
 -- what writing the slot at a corner asks: no top side lies below the corner
-pub record Keepable (base n : ℕ) (c : Corner) (work tops : List ℕ) : Type 0 where
-  pub bytes : base + n ≤ length work
+pub record Keepable (n : ℕ) (c : Corner) (tops : List ℕ) : Type 0 where
   pub sides : c.x.0 + n < tops_size
   pub row : c.y.0 < 256
   pub above : (b : ℕ) → c.x.0 ≤ b → b < tops_size → c.y.0 ≤ get_or tops b 0
 
-abbrev pub SlotKept : ℕ → ℕ → Corner → List ℕ → List ℕ → List ℕ → Type 0
-SlotKept base n c tops before after =
-    Filled before base n (λ j. kept_byte c.y.0 (get_or tops (c.x.0 + j) 0) (get_or tops (c.x.0 + suc j) 0)) after
+abbrev pub SlotKept : Corner → List ℕ → List ℕ → Type 0
+SlotKept c tops after =
+    (j : ℕ) → j < length after → get_or after j 0 ≡ kept_byte c.y.0 (get_or tops (c.x.0 + j) 0) (get_or tops (c.x.0 + suc j) 0)
 
 -- the slot of a cut node at a corner is written from a filled line
 abbrev pub CornerCut : Cut → List ℕ → Corner → List ℕ → List ℕ → Type 0

@@ -4,7 +4,7 @@
 // sides of its boxes.
 #![tactic(auto)]
 
-ghost use Rattle.std.specs.Prelude.{◌≡◌, suc, ◌+◌, ◌≤◌, ◌<◌, min, max, length};
+ghost use Rattle.std.specs.Prelude.{◌≡◌, suc, ◌+◌, ◌≤◌, ◌<◌, length};
 ghost use Rattle.rules.proofs.Test.{across};
 ghost use Rattle.slots.specs.Lent.{OnBoard, Lent};
 ghost use Rattle.cuts.specs.Cut.{chunk, filled_size, line_size, tops_size};
@@ -14,7 +14,7 @@ ghost use Rattle.cuts.specs.Cut.{SlotFilled, CornerFilled, WholeLine, RunLaid, S
 ghost use Rattle.cuts.specs.Cut.{TailsNone, NoTops, SlotKept, CornerCut, LineCut, NodeCut};
 
 use rules::{Columns, Corner, Direction, MOST_COLUMNS, MOST_ROWS, Rows};
-use slots::{Board, slot_start};
+use slots::{Board, slot_part, slot_start};
 
 // A place along a line of corners, or how many places it has: columns under a vertical cut, rows under a horizontal
 // one.
@@ -44,25 +44,11 @@ const LINE_SIZE: usize = MOST_PLACES * FILLED_SIZE;
 // A top side for each right side, also where a slot's width runs past the chip, and what a last chunk runs over.
 const TOPS_SIZE: usize = 2 * MOST_COLUMNS + CHUNK;
 
-// The lower of two bytes.
-fn lower(a: u8, b: u8) -> u8
-    ensures { result ≡ min a b }
-{
-    if b < a { b } else { a }
-}
-
-// The higher of two bytes.
-fn higher(a: u8, b: u8) -> u8
-    ensures { result ≡ max a b }
-{
-    if a < b { b } else { a }
-}
-
 // The lower of a byte and a height, where 0 is no height.
 fn lowered_by(low: u8, height: u8) -> u8
     ensures { result ≡ lowered low height }
 {
-    if height == 0 { low } else { lower(low, height) }
+    if height == 0 { low } else { low.min(height) }
 }
 
 // A cut node: the chip, the way it cuts, and which nodes it and its children are.
@@ -136,23 +122,15 @@ impl Cut {
     }
 }
 
-// Fills n bytes of a slot at row y into the line, from `to` on.
-fn fill_slot(
-    work: &[u8],
-    from: usize,
-    n: usize,
-    y: u8,
-    height: u8,
-    line: &mut [u8; LINE_SIZE],
-    to: usize,
-)
-    requires { (from + n ≤ length work.now) × (to + n ≤ line_size) × (y ≤ height) × (height < 255) }
-    ensures { SlotFilled height y work.now from to n line.old line.new }
+// Fills a slot at row y into a place's top sides, one for each of its bytes.
+fn fill_slot(slot: &[u8], y: u8, height: u8, tops: &mut [u8])
+    requires { (length tops.old ≡ length slot.now) × (y ≤ height) × (height < 255) }
+    ensures { SlotFilled height y slot.now tops.new }
 {
     let mut low = height - y + 1;
-    for j in 0..n {
-        low = lowered_by(low, work[from + j]);
-        line[to + j] = y + low;
+    for (j, &h) in slot.iter().enumerate() {
+        low = lowered_by(low, h);
+        tops[j] = y + low;
     }
 }
 
@@ -168,17 +146,11 @@ fn fill_corner(
     requires { Lent board (suc t) work.now × OnBoard board at × (to + filled_size ≤ line_size) }
     ensures { CornerFilled board work.now t at to line.old line.new }
 {
-    let from = slot_start(board, t, at);
-    let x = at.x.0;
-    fill_slot(
-        work,
-        from,
-        board.width.0 - x,
-        at.y.0 as u8,
-        board.height.0 as u8,
-        line,
-        to + x + 1,
-    );
+    let first = to + at.x.0 + 1;
+    let columns = board.width.0 - at.x.0;
+    let slot = slot_part(work, board, t, at, columns);
+    let tops = &mut line[first..first + columns];
+    fill_slot(slot, at.y.0 as u8, board.height.0 as u8, tops);
 }
 
 // Fills the right child's slots at all corners of a line.
@@ -199,8 +171,8 @@ fn lay_chunk(line: &[u8; LINE_SIZE], from: usize, top: u8, tops: &mut [u8; TOPS_
     ensures { RunLaid line.now from top tops.old to chunk tops.new }
 {
     for k in 0..CHUNK {
-        let box_top = higher(top, line[from + k]);
-        tops[to + k] = lower(tops[to + k], box_top);
+        let box_top = top.max(line[from + k]);
+        tops[to + k] = tops[to + k].min(box_top);
     }
 }
 
@@ -216,10 +188,8 @@ fn lay_slot(
     requires { Layable from to n tops.old }
     ensures { SlotLaid line.now from top tops.old to n tops.new }
 {
-    let mut k: usize = 0;
-    while k < n {
+    for k in (0..n).step_by(CHUNK) {
         lay_chunk(line, from + k, top, tops, to + k);
-        k += CHUNK;
     }
 }
 
@@ -272,10 +242,9 @@ fn pair_corner(
     requires { CornerReady cut.board cut.left at work.now line.now × NoTops cut.board at tops.old }
     ensures { CornerLaid cut.direction cut.board line.now work.now cut.left at tops.new }
 {
-    let from = slot_start(cut.board, cut.left, at);
-    let n = cut.board.width.0 - at.x.0;
-    for i in 0..n {
-        let height = work[from + i];
+    let columns = cut.board.width.0 - at.x.0;
+    let slot = slot_part(work, cut.board, cut.left, at, columns);
+    for (i, &height) in slot.iter().enumerate() {
         pair_shape(cut, at, i, height, line, tops);
     }
 }
@@ -289,14 +258,14 @@ fn kept(before: u8, top: u8, y: u8) -> u8
 }
 
 // Writes the slot at a corner from its top sides.
-fn keep_slot(work: &mut [u8], base: usize, n: usize, at: Corner, tops: &[u8; TOPS_SIZE])
-    requires { Keepable base n at work.old tops.now }
-    ensures { SlotKept base n at tops.now work.old work.new }
+fn keep_slot(slot: &mut [u8], at: Corner, tops: &[u8; TOPS_SIZE])
+    requires { Keepable (length slot.old) at tops.now }
+    ensures { SlotKept at tops.now slot.new }
 {
     let x = at.x.0;
     let y = at.y.0 as u8;
-    for j in 0..n {
-        work[base + j] = kept(tops[x + j], tops[x + j + 1], y);
+    for (j, byte) in slot.iter_mut().enumerate() {
+        *byte = kept(tops[x + j], tops[x + j + 1], y);
     }
 }
 
@@ -309,7 +278,7 @@ fn cut_corner(work: &mut [u8], cut: Cut, at: Corner, line: &[u8; LINE_SIZE])
     let mut tops = [none; TOPS_SIZE];
     pair_corner(work, cut, at, line, &mut tops);
     let base = slot_start(cut.board, cut.t, at);
-    keep_slot(work, base, cut.board.width.0, at, &tops);
+    keep_slot(&mut work[base..base + cut.board.width.0], at, &tops);
 }
 
 // Writes the slots of a cut node at the corners of one line.

@@ -3,26 +3,18 @@ use mathlib.Core.Path.{◌≡◌, ◌∙◌}
 use mathlib.Core.List.{List}
 use Prim.Native.Nat.{ℕ, suc, ◌+◌, ◌-◌, ◌≤◌, ◌<◌}
 use native.Mathlib.Omega.{arith}
-use lib.ListN.{length, take, drop}
-use Rattle.std.proofs.lemmas.List.{places}
+use lib.ListN.{length, take}
 use Rattle.rules.specs.declared.Corner.{Corner}
-use Rattle.rules.specs.Slot.{slot}
 use Rattle.rules.specs.Chip.{corner}
 use Rattle.slots.specs.declared.Board.{Board}
-use Rattle.slots.specs.Lent.{OnBoard, start_on, slots_on, Lent}
+use Rattle.slots.specs.Lent.{OnBoard, slots_on, Lent, SlotPart}
 use Rattle.slots.proofs.Lending.{fewer_lent}
 use Rattle.cuts.specs.declared.Cut.{Cut}
 use Rattle.scans.specs.Run.{bytes, UpToLast, stop_at, FirstAfter, Falls, BesideKept, AboveKept}
-use Rattle.scans.specs.Scan.{Reads, SlotPart, ScannedBeside, ScannedAbove}
+use Rattle.scans.specs.Scan.{Reads, ScannedBeside, ScannedAbove}
 use Rattle.scans.proofs.Runs.{up_same, stop_same, first_same, up_taken, stop_taken}
 use Rattle.scans.proofs.Beside.{beside_same}
 use Rattle.scans.proofs.Above.{above_same}
-
--- some of a slot's bytes, from where it starts
-pub slot_part : {B : Board} {child n from : ℕ} {c : Corner} {children : List ℕ} → from ≡ start_on B child c → start_on B child c + B.width.0 ≤ length children → n ≤ B.width.0
-    → SlotPart B child c n children (take (from + n - from) (drop from children))
-unfolding slot
-slot_part e l h = record { long = search (arith, places); at = λ j q. rw (← e) (search (arith, places)) }
 
 -- what the loops find there they find in the child's slot
 module _ {B : Board} {child n : ℕ} {c : Corner} {children part : List ℕ} (p : SlotPart B child c n children part) where

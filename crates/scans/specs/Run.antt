@@ -2,11 +2,8 @@
 -- is kept goes to another slot.
 use Rattle.std.specs.Prelude.{◌≡◌, ◌⊎◌, true, false, List, ℕ, ◌+◌, ◌-◌, ◌≤◌, ◌<◌, max, eqb, length, get_or}
 use Rattle.std.specs.Prelude.{Option, Some, None}
+pub use Rattle.slots.specs.Lent.{bytes}
 use Rattle.scans.specs.declared.Looked.{Looked}
-
--- the bytes of a slot
-abbrev pub bytes : List ℕ → ℕ → ℕ
-bytes slot j = get_or slot j 0
 
 -- a place among n bytes, or n where there is none
 abbrev pub or_end : ℕ → Option ℕ → ℕ

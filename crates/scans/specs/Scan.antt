@@ -26,11 +26,6 @@ pub record Reads (B : Board) (t child : ℕ) (c : Corner) (children : List ℕ) 
   pub corner : OnBoard B c
   pub stairs : StairsOn B children child
 
--- the first n bytes of a child's slot at a corner
-pub record SlotPart (B : Board) (child : ℕ) (c : Corner) (n : ℕ) (children part : List ℕ) : Type 0 where
-  pub long : length part ≡ n
-  pub at : (j : ℕ) → j < n → bytes part j ≡ slots_on B children child c j
-
 -- scanning beside a left shape asks that it is on the chip, and that boxes narrower than the last kept are wider than it
 pub record BesideReady (cut : Cut) (c : Corner) (wide height stop last : ℕ) (children slot : List ℕ) : Type 0 where
   pub reads : Reads cut.board cut.t cut.right c children

@@ -6,18 +6,18 @@
 // work bytes are parted at the slot that is written: its children's slots stand before it.
 #![tactic(auto)]
 
-ghost use Rattle.std.specs.Prelude.{◌≡◌, suc, ◌+◌, ◌≤◌, ◌<◌, length, IfSome};
+ghost use Rattle.std.specs.Prelude.{◌≡◌, ◌+◌, ◌≤◌, ◌<◌, length, IfSome};
 ghost use Rattle.rules.specs.declared.Direction.TheVariants.{Vertical, Horizontal};
-ghost use Rattle.slots.specs.Lent.{OnBoard, Lent};
+ghost use Rattle.slots.specs.Lent.{OnBoard};
 ghost use Rattle.cuts.specs.Cut.{NodeCut};
 ghost use Rattle.scans.specs.Run.{bytes, UpToLast, stop_at, FirstAfter, LookedUp, FoundKept, Falls};
 ghost use Rattle.scans.specs.Run.{WalkedOnIn, BesideKeptIn, WidestKept, WalkedUp, AboveKept};
-ghost use Rattle.scans.specs.Scan.{SlotPart, BesideReady, ScannedBeside, AboveReady, ScannedAbove};
+ghost use Rattle.scans.specs.Scan.{BesideReady, ScannedBeside, AboveReady, ScannedAbove};
 ghost use Rattle.scans.specs.Scan.{ScanReady, CornerScanned, Scannable, CornerPaired, RowPaired};
 
 use cuts::Cut;
 use rules::{Columns, Corner, Direction, Rows};
-use slots::{Board, clear, slot_start};
+use slots::{clear, slot_part, slot_start};
 
 // Higher than any shape: the first left shape has no stop.
 // stays: a bound like any other height; an Option would be tested at each shape that the walk passes.
@@ -117,15 +117,6 @@ fn keep_beside(slot: &mut [u8], wide: usize, height: u8, right: &[u8], stop: u8)
     let looked = look_up(right, height);
     keep_found(slot, wide, looked.found, height);
     walk_on(slot, wide, &right[..looked.higher], stop).or(looked.found)
-}
-
-// The first n bytes of a child's slot at a corner.
-fn slot_part(children: &[u8], board: Board, child: usize, at: Corner, n: usize) -> &[u8]
-    requires { Lent board (suc child) children.now × OnBoard board at × (n ≤ board.width.0) }
-    ensures { SlotPart board child at n children.now result.now }
-{
-    let from = slot_start(board, child, at);
-    &children[from..from + n]
 }
 
 // Scans the right shapes beside a left shape, and gives the width of the last box kept.

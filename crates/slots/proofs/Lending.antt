@@ -5,7 +5,8 @@ use mathlib.Core.List.{List}
 use Prim.Native.Nat.{ℕ, suc, ◌+◌, ◌-◌, ◌*◌, ◌≤◌, ◌<◌}
 use native.Mathlib.Omega.{arith}
 use native.Mathlib.Nat.{le_refl, mul-le-mul_left}
-use lib.ListN.{length}
+use lib.ListN.{length, take, drop}
+use Rattle.std.proofs.lemmas.List.{places}
 use Rattle.rules.specs.declared.Corner.{Corner}
 use Rattle.rules.specs.declared.Design.{Design}
 use Rattle.rules.specs.Slot.{slot}
@@ -15,7 +16,7 @@ use Rattle.rules.proofs.Limits.{limits, every_row, no_other_row}
 use Rattle.rules.proofs.Working.{slot_within, work_rises}
 use Rattle.slots.specs.declared.Board.{Board}
 use Rattle.slots.specs.Size.{board_of}
-use Rattle.slots.specs.Lent.{OnBoard, ListedOn, start_on, slots_on, bytes_from, most_work, Addressed, Lent}
+use Rattle.slots.specs.Lent.{OnBoard, ListedOn, start_on, slots_on, bytes_from, most_work, Addressed, Lent, SlotPart}
 
 -- a lawful design's work, on its own board
 pub lent_of : (d : Design) {work : List ℕ} {board : Board} → LawfulDesign d → work_of d ≤ length work → board ≡ board_of d → Lent board (nodes d) work
@@ -81,6 +82,12 @@ module _ {board : Board} {t : ℕ} {work : List ℕ} (lent : Lent board (suc t) 
 pub slot_bytes : (board : Board) (t : ℕ) (c : Corner) (work : List ℕ) {from : ℕ} → from ≡ start_on board t c → bytes_from work from ≡ slots_on board work t c
 unfolding slot
 slot_bytes board t c work e = ap (bytes_from work) e
+
+-- some of them, from the first on
+pub part_of : {board : Board} {t n from : ℕ} {c : Corner} {work : List ℕ} → from ≡ start_on board t c → start_on board t c + board.width.0 ≤ length work → n ≤ board.width.0
+    → SlotPart board t c n work (take (from + n - from) (drop from work))
+unfolding slot
+part_of e l h = record { long = search (arith, places); at = λ j q. rw (← e) (search (arith, places)) }
 
 -- a number times a width is no less
 pub wide_grows : (W a : ℕ) → 1 ≤ W → a ≤ a * W

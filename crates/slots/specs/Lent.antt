@@ -1,5 +1,5 @@
 -- Where slots stand on a board, and what they ask of its size and of the bytes lent for them.
-use Rattle.std.specs.Prelude.{Bool, ◌&&◌, List, ℕ, ◌+◌, ◌≤◌, ◌<◌, ltb, eqb, length, get_or}
+use Rattle.std.specs.Prelude.{◌≡◌, Bool, ◌&&◌, List, ℕ, ◌+◌, ◌≤◌, ◌<◌, ltb, eqb, length, get_or}
 use Rattle.rules.specs.declared.Corner.{Corner}
 use Rattle.rules.specs.Slot.{slot_start, work_needed, slot, CornerOn}
 use Rattle.rules.specs.Design.{most_columns, most_rows, most_tokens}
@@ -22,6 +22,15 @@ slots_on b work = slot b.width.0 b.listed.0 work
 
 abbrev pub bytes_from : List ℕ → ℕ → ℕ → ℕ
 bytes_from work from j = get_or work (from + j) 0
+
+-- the bytes of a slot, or of its first ones
+abbrev pub bytes : List ℕ → ℕ → ℕ
+bytes part j = get_or part j 0
+
+-- the first n bytes of the slot of node t at a corner
+pub record SlotPart (b : Board) (t : ℕ) (c : Corner) (n : ℕ) (work part : List ℕ) : Type 0 where
+  pub long : length part ≡ n
+  pub at : (j : ℕ) → j < n → bytes part j ≡ slots_on b work t c j
 
 -- the slot of node t at a corner stands within the limits, and so below so many bytes
 abbrev pub most_work : ℕ

@@ -1,10 +1,10 @@
 // Slots in the work bytes: where they start, how one is cleared, and how writing one leaves all others.
 #![tactic(auto)]
 
-ghost use Rattle.std.specs.Prelude.{◌≡◌, ◌+◌, ◌≤◌, length};
+ghost use Rattle.std.specs.Prelude.{◌≡◌, suc, ◌+◌, ◌≤◌, length};
 ghost use Rattle.slots.specs.Size.{board_of};
 ghost use Rattle.slots.specs.Written.{none, Filled};
-ghost use Rattle.slots.specs.Lent.{Addressed, start_on, most_work};
+ghost use Rattle.slots.specs.Lent.{OnBoard, Addressed, Lent, SlotPart, start_on, most_work};
 
 use rules::{Columns, Corner, Design, Rows};
 
@@ -36,6 +36,15 @@ pub fn slot_start(board: Board, t: usize, at: Corner) -> usize
 {
     let width = board.width.0;
     ((t * board.listed.0 + at.y.0) * width + at.x.0) * width
+}
+
+// The first n bytes of the slot of node t at a corner.
+pub fn slot_part(work: &[u8], board: Board, t: usize, at: Corner, n: usize) -> &[u8]
+    requires { Lent board (suc t) work.now × OnBoard board at × (n ≤ board.width.0) }
+    ensures { SlotPart board t at n work.now result.now }
+{
+    let from = slot_start(board, t, at);
+    &work[from..from + n]
 }
 
 // Clears the bytes of a slot.

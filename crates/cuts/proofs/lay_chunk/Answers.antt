@@ -12,7 +12,7 @@ loop-k-init c = (search rules, none_filled)
 
 pub loop-k-preserved : goal.loop-k-preserved
 loop-k-preserved c = let a = c.args in
-    (omega arith, one_laid a.top a.from a.line.now c.loop-k.invariant.1 c.lower.ensures c.higher-box_top.ensures)
+    (omega arith, one_laid a.top a.from a.line.now c.loop-k.invariant.1 c.min.ensures c.max-box_top.ensures)
 
 pub returns : goal.returns
 returns c = let e : c.loop-k.k ≡ chunk = omega arith in rw e at c.loop-k.invariant.1

@@ -13,3 +13,7 @@ loop-k-preserved c = let a = c.args in (omega arith, chunk_laid a.top a.from a.l
 
 pub returns : goal.returns
 returns c = let l = c.loop-k.invariant in filled_laid _ l.1 (omega arith) l.0 (omega arith)
+
+pub returns-2 : goal.returns-2
+returns-2 c = let a = c.args in let p = c.requires in let l = c.loop-k.invariant in
+    filled_laid _ (chunk_laid a.top a.from a.line.now l.1 c.lay_chunk.ensures) (omega arith) (omega arith) (omega arith)

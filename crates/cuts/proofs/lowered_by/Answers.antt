@@ -8,4 +8,4 @@ pub returns-then-height-eq0 : goal.returns-then-height-eq0
 returns-then-height-eq0 c = sym (lowered_none _ _ c.if-height-eq0.true)
 
 pub returns-else-height-eq0 : goal.returns-else-height-eq0
-returns-else-height-eq0 c = c.lower.ensures ∙ sym (lowered_some _ _ (omega arith))
+returns-else-height-eq0 c = c.min.ensures ∙ sym (lowered_some _ _ (omega arith))
