@@ -26,6 +26,7 @@ struct Place(usize);
 struct Line(usize);
 
 // The most places that a line can have, in either direction.
+// stays: a constant's value calls no `max`.
 const MOST_PLACES: usize = if MOST_COLUMNS < MOST_ROWS {
     MOST_ROWS
 } else {
@@ -166,6 +167,8 @@ fn fill_line(work: &[u8], cut: Cut, on: Line, line: &mut [u8; LINE_SIZE])
 }
 
 // Lays a chunk of a filled slot, none of it lower than `top`, over the top sides.
+// stays: a constant count at two places of larger buffers, here and below, is one vector step; of a zip with iter_mut a
+// proof learns nothing.
 fn lay_chunk(line: &[u8; LINE_SIZE], from: usize, top: u8, tops: &mut [u8; TOPS_SIZE], to: usize)
     requires { (from + chunk ≤ line_size) × (to + chunk ≤ tops_size) }
     ensures { RunLaid line.now from top tops.old to chunk tops.new }

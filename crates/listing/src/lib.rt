@@ -17,6 +17,7 @@ use slots::board_of;
 use tokens::token_of;
 
 // How a cut is listed: by the scan over its children's own lists, or by all pairs of the shapes stored there.
+// stays: MayScanAll, which docs/PROMISES.md names, is over it; a closure's clauses would say over all bytes what it says.
 #[derive(Clone, Copy)]
 enum By {
     Scan,
