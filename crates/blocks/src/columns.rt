@@ -165,6 +165,7 @@ impl<'a> Column<'a> {
 }
 
 // How many blocks a column of this kind has. In a CLB column each row is a block, a CLB.
+// stays: the number of a kind, here and below: `column_of` of the rules, which the contract names, takes it
 fn many_of(grid: Grid, kind: u8) -> usize
     ensures { (result ≡ (column_of grid.entry.chip.now kind).many) × (result ≤ most_rows) }
 {
