@@ -53,7 +53,7 @@ impl<'a> Grid<'a> {
         ensures many { length result.now ≡ self.entry.chip.now.width.0 }
         ensures most { length result.now ≤ most_columns }
     {
-        &self.chip.kinds[..self.chip.width.0]
+        &self.chip.kinds[..self.width()]
     }
 
     // Column x.

@@ -41,11 +41,11 @@ impl Region {
     pub fn right(self) -> usize
         ensures { (result ≡ right self.rectangle) × (result < 512) }
     {
-        self.rectangle.corner.x.0 + self.rectangle.shape.w.0
+        self.left() + self.rectangle.shape.w.0
     }
 
     // The row that it begins at.
-    pub fn bottom(self) -> usize
+    fn bottom(self) -> usize
         ensures { (result ≡ bottom self.rectangle) × (result < 256) }
     {
         self.rectangle.corner.y.0
@@ -55,11 +55,11 @@ impl Region {
     pub fn top(self) -> usize
         ensures { (result ≡ top self.rectangle) × (result < 512) }
     {
-        self.rectangle.corner.y.0 + self.rectangle.shape.h.0
+        self.bottom() + self.rectangle.shape.h.0
     }
 
     // Column x is one of its columns.
-    pub fn has_column(self, x: usize) -> bool
+    fn has_column(self, x: usize) -> bool
         ensures { result ≡ nat_le (left self.rectangle) x && nat_lt x (right self.rectangle) }
     {
         self.left() <= x && x < self.right()
