@@ -1,37 +1,23 @@
 -- Nets in bytes, taken one after another from a place on: what is dropped before a place begins with the count there, and then come the members.
 -- Assumes nothing.
 use mathlib.Core.Path.{◌≡◌, refl, sym, ◌∙◌, ap}
-use mathlib.Core.Bool.{true, false, ◌&&◌}
+use mathlib.Core.Bool.{Bool, true, false, ◌&&◌}
 use mathlib.Core.Logic.{◌⊎◌, inl, inr}
 use mathlib.Core.List.{List, [], ◌∷◌, ◌++◌, append_assoc, append-nil}
 use Prim.Native.Nat.{ℕ, zero, suc, ◌+◌, ◌-◌, ◌≤◌, ◌<◌}
 use native.Mathlib.Omega.{arith}
 use native.Mathlib.Nat.{eq-or-lt_of_le}
-use native.Mathlib.Numerals.{add-one}
-use lib.Dec.{leb}
-use lib.ListN.{length, get_or, set, take, drop, length-append, length-drop, length-set, drop_of_length-le, get_or-append, get_or-eq_default}
-use lib.Seq.{drop-cons, drop-drop, drop-length, get_or-take, get_or-drop, get_or_at, get_or-set_same, get_or-set_other}
+use Rattle.std.specs.Prelude.{Option, None, Some, MatchOption}
+use Rattle.std.specs.List.{IsSplitAt}
+use Rattle.std.proofs.lemmas.List.{length-take-le}
+use lib.ListN.{length, set, take, drop, length-append, length-set, get_or-append, get_or-eq_default}
+use lib.Seq.{get_or_at, get_or-set_same, get_or-set_other}
 use borrow.Author.Tests.{le-leb, lt-leb}
 use Rattle.rules.specs.declared.Net.{Net}
 use Rattle.rules.specs.Design.{most_modules}
 use Rattle.rules.specs.Score.{most_nets, no_net, net_at, SameNet}
-use Rattle.rules.proofs.Searching.{test-iffs}
 use Rattle.costs.specs.Slices.{net_there, net_of, first_net, past_net, nets_in}
-use Rattle.costs.specs.Places.{Copied, Taking, NetsFrom}
-
--- bytes copied one after another
-pub copied_none : {s : List ℕ} {at : ℕ} {members : List ℕ} → length members ≡ most_modules → Copied s at 0 members
-copied_none l = record { places = l; each = λ j h. absurd (omega arith) }
-
-pub copied_more : {s : List ℕ} {at n : ℕ} {members : List ℕ} → n < most_modules → Copied s at n members
-    → Copied s at (n + 1) (set members n (get_or s (at + n) 0))
-copied_more {s} {at} {n} {members} l c =
-    record { places = length-set members n _ ∙ c.places; each = λ j h. go j (eq-or-lt_of_le (omega (arith, h))) }
-  where
-    go : (j : ℕ) → (suc j ≡ n + 1) ⊎ (suc j < n + 1) → get_or (set members n (get_or s (at + n) 0)) j 0 ≡ get_or s (at + j) 0
-    go j (inl e) =
-        let i : j ≡ n = omega arith in let p = c.places in rw i (get_or-set_same members n (get_or s (at + n) 0) 0 (omega arith))
-    go j (inr k) = get_or-set_other members n j (get_or s (at + n) 0) 0 (λ w. absurd (omega arith)) ∙ c.each j (omega arith)
+use Rattle.costs.specs.Places.{Split, Taking, NetsFrom}
 
 -- a net that is there, and none
 pub first_there : (s : List ℕ) → net_there s ≡ true → first_net s ≡ net_of s
@@ -46,48 +32,41 @@ pub past_there : (s : List ℕ) → net_there s ≡ true → past_net s ≡ drop
 unfolding past_net
 past_there s t = rw (past_net, t)
 
-past_nothing : (s : List ℕ) → net_there s ≡ false → past_net s ≡ []
+pub past_nothing : (s : List ℕ) → net_there s ≡ false → past_net s ≡ []
 unfolding past_net
 past_nothing s f = rw (past_net, f)
 
-module _ (s : List ℕ) (at : ℕ) (h : at < length s) where
-  there_is : leb (get_or s at 0) most_modules && leb (get_or s at 0) (length s - at - 1) ≡ net_there (drop at s)
-  unfolding net_there
-  there_is =
-      let e : length (drop (suc at) s) ≡ length s - at - 1 = length-drop (suc at) s ∙ omega arith in
-      rw (drop-cons s at 0 h, e)
+-- the net that bytes begin with, and no net
+pub split_there : (n : ℕ) (s : List ℕ) → n ≤ most_modules → n ≤ length s → Split (n ∷ s) (take n s) (drop n s)
+unfolding net_there
+split_there n s few ends =
+    let l = length-take-le n s ends in
+    let t : net_there (n ∷ s) ≡ true = rw (le-leb n most_modules few, le-leb n (length s) ends) in
+    record { is_there = t; few = omega arith; net = rw l; after = sym (past_there (n ∷ s) t) }
 
-  pub there_few : get_or s at 0 ≤ most_modules → leb (get_or s at 0) (length s - at - 1) ≡ net_there (drop at s)
-  there_few k = rw (le-leb (get_or s at 0) most_modules k) at there_is
+pub none_many : (n : ℕ) (s : List ℕ) → most_modules < n → net_there (n ∷ s) ≡ false
+unfolding net_there
+none_many n s h = rw (lt-leb n most_modules h)
 
-  pub there_many : most_modules < get_or s at 0 → leb (get_or s at 0) most_modules ≡ net_there (drop at s)
-  there_many k = let f = lt-leb (get_or s at 0) most_modules k in f ∙ (rw f at there_is)
+and_false : (b : Bool) → b && false ≡ false
+and_false true = refl
+and_false false = refl
 
-  pub there_ends : net_there (drop at s) ≡ true → (get_or s at 0 ≤ most_modules) × (at + 1 + get_or s at 0 ≤ length s)
-  there_ends t = let z = simp test-iffs at (there_is ∙ t) in let a = z.0 in let b = z.1 in (a, omega arith)
+pub none_ends : (n : ℕ) (s : List ℕ) → length s < n → net_there (n ∷ s) ≡ false
+unfolding net_there
+none_ends n s h = rw (lt-leb n (length s) h) (and_false _)
 
-  of_place : net_of (drop at s) ≡ record { count = get_or s at 0; modules = take (get_or s at 0) (drop (suc at) s) }
-  of_place = rw (drop-cons s at 0 h)
+pub none_left : (s : List ℕ) → length s ≡ 0 → net_there s ≡ false
+unfolding net_there
+none_left [] h = refl
+none_left (n ∷ s) h = absurd (omega arith)
 
-  -- the net at a place, its members copied; and none
-  pub net_here : net_there (drop at s) ≡ true → (members : List ℕ) → Copied s (at + 1) (get_or s at 0) members
-      → SameNet (record { count = get_or s at 0; modules = members }) (first_net (drop at s))
-  net_here t members c = rw (first_there (drop at s) t ∙ of_place) (record {
-    count = refl;
-    members = λ j l. c.each j l ∙ rw add-one (sym (get_or-drop (suc at) s j 0)) ∙ sym (get_or-take (get_or s at 0) (drop (suc at) s) j 0 l);
-  })
-
-  pub none_here : net_there (drop at s) ≡ false → (net : Net) → net.count ≡ 0 → SameNet net (first_net (drop at s))
-  none_here f net z = rw (first_none (drop at s) f) (record { count = z; members = λ j l. absurd (omega arith) })
-
-  -- the place past it
-  pub past_here : net_there (drop at s) ≡ true → drop (at + 1 + get_or s at 0) s ≡ past_net (drop at s)
-  past_here t =
-      let e : at + 1 + get_or s at 0 ≡ at + suc (get_or s at 0) = omega arith in
-      rw e (sym (drop-drop (suc (get_or s at 0)) at s)) ∙ sym (past_there (drop at s) t ∙ ap (λ n. drop (suc n.count) (drop at s)) of_place)
-
-  pub past_none : net_there (drop at s) ≡ false → drop (length s) s ≡ past_net (drop at s)
-  past_none f = drop-length s ∙ sym (past_nothing (drop at s) f)
+-- what is left after the count is cut behind the members, if it is as long
+pub split_or : {T : Type 0} (s : List ℕ) (n : ℕ) (rest : List ℕ) (o : Option T) (front back : T → List ℕ) → s ≡ n ∷ rest → n ≤ most_modules
+    → MatchOption o (length rest < n) (λ p. IsSplitAt rest n (front p) (back p))
+    → MatchOption o (net_there s ≡ false) (λ p. Split s (front p) (back p))
+split_or s n rest None front back e few h = rw e (none_ends n rest h)
+split_or s n rest (Some p) front back e few h = rw (e, h.1, h.2) (split_there n rest few h.0)
 
 -- with a net more
 nets_more : (k : ℕ) (s : List ℕ) → 0 < length s → nets_in (suc k) s ≡ first_net s ∷ nets_in k (past_net s)
@@ -100,32 +79,19 @@ unfolding nets_in
 nets_over [] h = absurd (omega arith)
 nets_over (n ∷ s) h = refl
 
-nets_none : (k : ℕ) → nets_in k [] ≡ []
+nets_none : (k : ℕ) (s : List ℕ) → length s ≡ 0 → nets_in k s ≡ []
 unfolding nets_in
-nets_none zero = refl
-nets_none (suc k) = refl
+nets_none zero [] h = refl
+nets_none (suc k) [] h = refl
+nets_none k (n ∷ s) h = absurd (omega arith)
 
-left_over : (s : List ℕ) (at : ℕ) → at < length s → 0 < length (drop at s)
-left_over s at h = let e = length-drop at s in omega arith
-
-pub take_none : (bytes : List ℕ) (nets : List Net) → length nets ≡ most_nets → Taking bytes nets 0 0
-take_none bytes nets l = record {
-  done = [];
-  rest = refl;
-  many = refl;
-  few = omega arith;
-  places = l;
-  same = λ i h. absurd (omega arith);
-}
-
-module _ (bytes : List ℕ) (nets : List Net) (count at : ℕ) (z : Taking bytes nets count at) where
-  pub take_next : at < length bytes → count < most_nets → (net : Net) → SameNet net (first_net (drop at bytes))
-      → (next : ℕ) → drop next bytes ≡ past_net (drop at bytes)
-      → Taking bytes (set nets count net) (count + 1) next
+module _ (bytes : List ℕ) (nets : List Net) (count : ℕ) (left : List ℕ) (z : Taking bytes nets count left) where
+  pub take_next : 0 < length left → count < most_nets → (net : Net) → SameNet net (first_net left)
+      → (next : List ℕ) → next ≡ past_net left → Taking bytes (set nets count net) (count + 1) next
   take_next h k net e next q =
-      let first = first_net (drop at bytes) in
+      let first = first_net left in
       let n : most_nets - count ≡ suc (most_nets - (count + 1)) = omega arith in
-      let more = nets_more (most_nets - (count + 1)) (drop at bytes) (left_over bytes at h) in
+      let more = nets_more (most_nets - (count + 1)) left h in
       record {
         done = z.done ++ (first ∷ []);
         rest = z.rest ∙ rw (n, more, q) (sym (append_assoc z.done (first ∷ []) _));
@@ -136,25 +102,25 @@ module _ (bytes : List ℕ) (nets : List Net) (count at : ℕ) (z : Taking bytes
       }
     where
       go : (i : ℕ) → (suc i ≡ count + 1) ⊎ (suc i < count + 1)
-          → SameNet (net_at (set nets count net) i) (net_at (z.done ++ (first_net (drop at bytes) ∷ [])) i)
+          → SameNet (net_at (set nets count net) i) (net_at (z.done ++ (first_net left ∷ [])) i)
       go i (inl e') =
           let i-is : i ≡ count = omega arith in let p = z.places in let m = z.many in
           let a = get_or-set_same nets count net no_net (omega arith) in
-          let b = get_or_at z.done (first_net (drop at bytes)) [] no_net count m in rw (i-is, a, b) e
+          let b = get_or_at z.done (first_net left) [] no_net count m in rw (i-is, a, b) e
       go i (inr l) =
           let m = z.many in
           let a = get_or-set_other nets count i net no_net (λ w. absurd (omega arith)) in
-          let b = get_or-append z.done (first_net (drop at bytes) ∷ []) no_net i (omega arith) in rw (a, b) (z.same i (omega arith))
+          let b = get_or-append z.done (first_net left ∷ []) no_net i (omega arith) in rw (a, b) (z.same i (omega arith))
 
-  pub take_all : length bytes ≤ at → NetsFrom bytes nets count
+  pub take_all : length left ≡ 0 → NetsFrom bytes nets count
   take_all h =
-      let e : nets_in most_nets bytes ≡ z.done = z.rest ∙ rw (drop_of_length-le bytes h, nets_none, append-nil) in
+      let e : nets_in most_nets bytes ≡ z.done = z.rest ∙ rw (nets_none (most_nets - count) left h, append-nil) in
       record { many = sym (ap length e ∙ z.many); same = λ i l. rw e (z.same i l) }
 
-  pub take_over : count ≡ most_nets → at < length bytes → NetsFrom bytes nets (count + 1)
+  pub take_over : count ≡ most_nets → 0 < length left → NetsFrom bytes nets (count + 1)
   take_over k h =
       let n : most_nets - count ≡ 0 = omega arith in
-      let e : nets_in most_nets bytes ≡ z.done ++ (no_net ∷ []) = z.rest ∙ rw (n, nets_over (drop at bytes) (left_over bytes at h)) in
+      let e : nets_in most_nets bytes ≡ z.done ++ (no_net ∷ []) = z.rest ∙ rw (n, nets_over left h) in
       record {
         many = sym (ap length e ∙ length-append z.done (no_net ∷ []) ∙ rw z.many);
         same = λ i l. rw e (go i (eq-or-lt_of_le (omega (arith, l))));

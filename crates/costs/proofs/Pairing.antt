@@ -6,7 +6,7 @@ use mathlib.Core.List.{List, [], ◌∷◌}
 use Prim.Native.Nat.{ℕ, zero, suc, ◌+◌, ◌≤◌, ◌<◌, min}
 use native.Mathlib.Nat.{eq-or-lt_of_le}
 use native.Mathlib.Omega.{arith}
-use lib.ListN.{length, get_or, set, replicate, length-replicate, length-set, get_or-replicate, get_or-eq_default}
+use lib.ListN.{length, get_or, set, length-set}
 use lib.Seq.{get_or-set_same, get_or-set_other}
 use lib.Ieee.{Float}
 use Rattle.rules.specs.declared.Term.{Term}
@@ -14,12 +14,6 @@ use Rattle.rules.specs.Score.{most_terms, term_at}
 use Rattle.rules.proofs.Searching.{before_or_not}
 use Rattle.costs.specs.Slices.{no_term, term_of, terms_in}
 use Rattle.costs.specs.Places.{pairs, TermsFrom}
-
-pub other_kind : (k : ℕ) (w : Float) → (k ≡ 0 → ⊥) → (k ≡ 1 → ⊥) → (k ≡ 2 → ⊥) → no_term ≡ term_of k w
-other_kind zero w a b c = absurd (a refl)
-other_kind (suc zero) w a b c = absurd (b refl)
-other_kind (suc (suc zero)) w a b c = absurd (c refl)
-other_kind (suc (suc (suc k))) w a b c = refl
 
 -- as long as both last and there are places
 pub pair_at : (most : ℕ) (ks : List ℕ) (ws : List Float) (j : ℕ) (d : Float) → j < length ks → j < length ws → j < most
@@ -80,14 +74,6 @@ pub record Placed (ks : List ℕ) (ws : List Float) (i : ℕ) (terms : List Term
   pub places : length terms ≡ most_terms
   pub before : (j : ℕ) → j < i → term_at terms j ≡ term_at (terms_in most_terms ks ws) j
   pub others : (j : ℕ) → i ≤ j → term_at terms j ≡ no_term
-
-pub placed_none : {ks : List ℕ} {ws : List Float} (t : Term) → t ≡ no_term → Placed ks ws 0 (replicate most_terms t)
-placed_none t e =
-    record { places = length-replicate most_terms t; before = λ j h. absurd (omega arith); others = λ j _. go j (before_or_not j most_terms) }
-  where
-    go : (j : ℕ) → (j < most_terms) ⊎ (most_terms ≤ j) → term_at (replicate most_terms t) j ≡ no_term
-    go j (inl h) = get_or-replicate most_terms j t no_term h ∙ e
-    go j (inr h) = get_or-eq_default (replicate most_terms t) no_term h
 
 pub placed_more : {ks : List ℕ} {ws : List Float} {i : ℕ} {terms : List Term} (t : Term) (d : Float) → i < pairs ks ws → Placed ks ws i terms
     → t ≡ term_of (get_or ks i 0) (get_or ws i d) → Placed ks ws (i + 1) (set terms i t)

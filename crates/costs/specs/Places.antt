@@ -1,10 +1,10 @@
 -- What the places hold while terms and nets are taken from slices.
-use Rattle.std.specs.Prelude.{◌≡◌, List, ◌++◌, ℕ, ◌+◌, ◌-◌, ◌≤◌, ◌<◌, min, length, get_or, drop, Float}
+use Rattle.std.specs.Prelude.{◌≡◌, true, List, ◌++◌, ℕ, ◌-◌, ◌≤◌, ◌<◌, min, length, Float}
 use Rattle.rules.specs.declared.Term.{Term}
 use Rattle.rules.specs.declared.Net.{Net}
 use Rattle.rules.specs.Design.{most_modules}
 use Rattle.rules.specs.Score.{most_terms, most_nets, term_at, net_at, SameNet}
-use Rattle.costs.specs.Slices.{terms_in, nets_in}
+use Rattle.costs.specs.Slices.{terms_in, net_there, net_of, past_net, nets_in}
 
 -- how many kinds have a weight, of those that there are places for
 abbrev pub pairs : List ℕ → List Float → ℕ
@@ -15,15 +15,21 @@ abbrev pub TermsFrom : List ℕ → List Float → List Term → Type 0
 TermsFrom kinds weights terms = (i : ℕ) → i < length (terms_in most_terms kinds weights)
     → term_at terms i ≡ term_at (terms_in most_terms kinds weights) i
 
--- so many bytes from a place on
-pub record Copied (bytes : List ℕ) (at n : ℕ) (members : List ℕ) : Type 0 where
-  pub places : length members ≡ most_modules
-  pub each : (j : ℕ) → j < n → get_or members j 0 ≡ get_or bytes (at + j) 0
+-- the net of these members
+abbrev pub net_with : List ℕ → Net
+net_with members = record { count = length members; modules = members }
 
--- so many nets in their places, taken from the bytes before a place, and what is left to take
-pub record Taking (bytes : List ℕ) (nets : List Net) (count at : ℕ) : Type 0 where
+-- a net is there: its members, and the bytes past it
+pub record Split (bytes members past : List ℕ) : Type 0 where
+  pub is_there : net_there bytes ≡ true
+  pub few : length members ≤ most_modules
+  pub net : net_of bytes ≡ net_with members
+  pub after : past ≡ past_net bytes
+
+-- so many nets in their places, taken from the front of the bytes, and what is left to take
+pub record Taking (bytes : List ℕ) (nets : List Net) (count : ℕ) (left : List ℕ) : Type 0 where
   pub done : List Net
-  pub rest : nets_in most_nets bytes ≡ done ++ nets_in (most_nets - count) (drop at bytes)
+  pub rest : nets_in most_nets bytes ≡ done ++ nets_in (most_nets - count) left
   pub many : length done ≡ count
   pub few : count ≤ most_nets
   pub places : length nets ≡ most_nets

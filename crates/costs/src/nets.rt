@@ -1,12 +1,13 @@
 // Nets from bytes.
-ghost use Rattle.std.specs.Prelude.{◌≡◌, ◌+◌, ◌≤◌, ◌<◌, length, drop};
+ghost use Rattle.std.specs.Prelude.{◌≡◌, ◌≤◌, false, length, MatchOption};
 ghost use Rattle.rules.specs.Design.{most_modules};
 ghost use Rattle.rules.specs.Score.{SameNet};
 ghost use Rattle.costs.specs.Slices.{net_there, first_net, past_net};
-ghost use Rattle.costs.specs.Places.{Copied, NetsFrom};
+ghost use Rattle.costs.specs.Places.{net_with, Split, NetsFrom};
 
 use rules::{MOST_MODULES, MOST_NETS, Net};
 
+// stays: no heap, so nets have fixed places, and `score` takes them with their number beside them, here and in `Net`.
 // The nets in their places, and how many there are.
 #[derive(Clone, Copy)]
 pub struct Taken {
@@ -14,75 +15,60 @@ pub struct Taken {
     pub count: usize,
 }
 
-// So many bytes from a place on.
-fn members_at(bytes: &[u8], at: usize, count: usize) -> [u8; MOST_MODULES]
-    requires { (count ≤ most_modules) × (at + count ≤ length bytes.now) }
-    ensures { Copied bytes.now at count result }
+// The net of these members.
+fn net_with(members: &[u8]) -> Net
+    requires { length members.now ≤ most_modules }
+    ensures { SameNet result (net_with members.now) }
 {
-    let mut members = [0; MOST_MODULES];
-    for j in 0..count {
-        members[j] = bytes[at + j];
-    }
-    members
-}
-
-// What is no net: it is empty.
-fn no_net() -> Net
-    ensures { result.count ≡ 0 }
-{
+    let mut modules = [0; MOST_MODULES];
+    modules[..members.len()].copy_from_slice(members);
     Net {
-        count: 0,
-        modules: [0; MOST_MODULES],
+        count: members.len(),
+        modules,
     }
 }
 
-// A net begins at this place: its members have places, and the bytes do not end in it.
-fn is_there(bytes: &[u8], at: usize) -> bool
-    requires { at < length bytes.now }
-    ensures { result ≡ net_there (drop at bytes.now) }
+// The members of the net that bytes begin with and the bytes past it, if a net is there: its members have places, and the bytes do
+// not end in it.
+fn split_net(bytes: &[u8]) -> Option<(&[u8], &[u8])>
+    ensures { MatchOption result (net_there bytes.now ≡ false) (λ p. Split bytes.now p.0.now p.1.now) }
 {
-    let count = bytes[at] as usize;
-    count <= MOST_MODULES && count <= bytes.len() - at - 1
+    let Some((count, rest)) = bytes.split_first() else {
+        return None;
+    };
+    let count = *count as usize;
+    if count > MOST_MODULES {
+        return None;
+    }
+    rest.split_at_checked(count)
 }
 
-// The net at a place, or an empty one.
-fn net_at(bytes: &[u8], at: usize) -> Net
-    requires { at < length bytes.now }
-    ensures { SameNet result (first_net (drop at bytes.now)) }
+// The net that bytes begin with and the bytes past it. What is no net is empty, and the last.
+fn first_net(bytes: &[u8]) -> (Net, &[u8])
+    ensures net { SameNet result.0 (first_net bytes.now) }
+    ensures past { result.1.now ≡ past_net bytes.now }
 {
-    if !is_there(bytes, at) {
-        return no_net();
+    match split_net(bytes) {
+        Some((members, past)) => (net_with(members), past),
+        None => (net_with(&[]), &[]),
     }
-    let count = bytes[at] as usize;
-    let modules = members_at(bytes, at + 1, count);
-    Net { count, modules }
-}
-
-// The place past the net that begins here.
-fn past_net(bytes: &[u8], at: usize) -> usize
-    requires { at < length bytes.now }
-    ensures { drop result bytes.now ≡ past_net (drop at bytes.now) }
-{
-    if !is_there(bytes, at) {
-        return bytes.len();
-    }
-    at + 1 + bytes[at] as usize
 }
 
 // All nets, in their places; one that has no place is counted.
 pub fn nets_in(bytes: &[u8]) -> Taken
     ensures { NetsFrom bytes.now result.nets result.count }
 {
-    let mut nets = [no_net(); MOST_NETS];
-    let mut at = 0;
+    let mut nets = [net_with(&[]); MOST_NETS];
+    let mut rest = bytes;
     for count in 0..MOST_NETS {
-        if bytes.len() <= at {
+        if rest.is_empty() {
             return Taken { nets, count };
         }
-        nets[count] = net_at(bytes, at);
-        at = past_net(bytes, at);
+        let (net, past) = first_net(rest);
+        nets[count] = net;
+        rest = past;
     }
-    if bytes.len() <= at {
+    if rest.is_empty() {
         return Taken {
             nets,
             count: MOST_NETS,

@@ -1,5 +1,5 @@
 // Terms from their kinds and weights.
-ghost use Rattle.std.specs.Prelude.{◌≡◌, min, length};
+ghost use Rattle.std.specs.Prelude.{◌≡◌, length};
 ghost use Rattle.rules.specs.Score.{most_terms};
 ghost use Rattle.costs.specs.Slices.{no_term, term_of, terms_in};
 ghost use Rattle.costs.specs.Places.{pairs, TermsFrom};
@@ -10,10 +10,10 @@ use rules::{MOST_TERMS, Term};
 fn no_term() -> Term
     ensures { result ≡ no_term }
 {
-    let zero = 0.0;
-    Term::Area(zero / zero)
+    Term::Area(f64::NAN)
 }
 
+// stays: a kind is a number here since score_slices takes kinds so, whose theorems (kind_number) and C interface hold it.
 // The term of a kind: 0 area, 1 ratio, 2 wire.
 fn term_of(kind: u8, weight: f64) -> Term
     ensures { result ≡ term_of kind weight }
@@ -26,19 +26,14 @@ fn term_of(kind: u8, weight: f64) -> Term
     }
 }
 
-fn lesser(a: usize, b: usize) -> usize
-    ensures { result ≡ min a b }
-{
-    if a < b { a } else { b }
-}
-
 // How many kinds have a weight, of those that there are places for.
 fn pair_count(kinds: &[u8], weights: &[f64]) -> usize
     ensures { result ≡ pairs kinds.now weights.now }
 {
-    lesser(lesser(kinds.len(), weights.len()), MOST_TERMS)
+    kinds.len().min(weights.len()).min(MOST_TERMS)
 }
 
+// stays: one index into three rows; through iter_mut and zip a proof knows no element afterwards, which TermsFrom speaks of.
 // The terms, in their places.
 pub fn terms_in(kinds: &[u8], weights: &[f64]) -> [Term; MOST_TERMS]
     ensures { TermsFrom kinds.now weights.now result }
@@ -55,10 +50,7 @@ pub fn term_count(kinds: &[u8], weights: &[f64]) -> usize
     ensures { result ≡ length (terms_in most_terms kinds.now weights.now) }
 {
     let n = pair_count(kinds, weights);
-    if kinds.len() != n {
-        return n + 1;
-    }
-    if weights.len() != n {
+    if kinds.len() != n || weights.len() != n {
         return n + 1;
     }
     n

@@ -4,4 +4,4 @@ use Rattle.costs.specs.Places.{Taking}
 use Rattle.costs.proofs.nets.nets_in.Given as goal
 
 abbrev pub invariant-loop-count : goal.invariant-loop-count
-invariant-loop-count l = Taking l.bytes l.nets l.count l.at
+invariant-loop-count l = Taking l.bytes l.nets l.count l.rest

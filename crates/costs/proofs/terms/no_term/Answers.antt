@@ -1,9 +1,8 @@
--- `costs::terms::no_term` meets its contract: zero by zero is no number.
--- Assumes nothing.
-use mathlib.Core.Path.{refl}
-use lib.Ieee.{div, of_bits}
+-- The constant's bits are those of what is no number. Assumes nothing.
+use Rattle.std.proofs.Common.{refl}
+use lib.Ieee.{of_bits}
 use Rattle.costs.proofs.terms.no_term.Goals as goal
 
 pub returns : goal.returns
-unfolding div of_bits
+unfolding of_bits
 returns c = refl
