@@ -13,7 +13,7 @@ use Rattle.rules.proofs.Tokens.{small_number}
 use Rattle.rules.proofs.Nodes.{never_beyond}
 use Rattle.rules.proofs.Limits.{limits, need_limits}
 use Rattle.writing.specs.Parts.{widest, design_size}
-use Rattle.writing.proofs.Lengths.{lesser_shorter, length_need, row_short, length_head, length_modules, length_design}
+use Rattle.writing.proofs.Lengths.{lesser_shorter, length_need, row_short, length_design}
 
 module _ (d : Design) (lawful : LawfulDesign d) where
   -- the tokens of a lawful design are its cuts and its modules
@@ -43,4 +43,4 @@ module _ (d : Design) (lawful : LawfulDesign d) where
       let tokens = le_trans
       (row_short number_bytes (λ t. get_or d.tokens t 0) token (nodes d)
       (λ t i. lesser_shorter _ (most_modules + 1) (token_small t i))) (mul-le-mul_left token few) in
-      omega (arith, length_design d, length_head d, length_modules d)
+      omega (arith, length_design d)

@@ -1,21 +1,13 @@
--- 01, "Order: form number 1, W, H, B, W kinds, m, three needs for each module, 2m-1 tokens.": its parts, and the most bytes that they
--- take together.
-use Rattle.std.specs.Prelude.{List, ◌++◌, ℕ, ◌+◌, ◌*◌, length, get_or}
+-- 01, "Order: form number 1, W, H, B, W kinds, m, three needs for each module, 2m-1 tokens.": what stands first, and the most bytes that
+-- all take together.
+use Rattle.std.specs.Prelude.{List, [], ◌∷◌, ℕ, ◌+◌, ◌*◌, length}
 use Rattle.rules.specs.declared.Design.{Design}
-use Rattle.rules.specs.Design.{most_tokens, most_columns, most_rows, last_kind, most_modules, most_number, need_at, nodes, width_of, height_of}
-use Rattle.rules.specs.Bytes.{number_bytes, need_bytes, row_bytes}
+use Rattle.rules.specs.Design.{most_tokens, most_columns, most_rows, last_kind, most_modules, most_number, width_of, height_of}
+use Rattle.rules.specs.Bytes.{number_bytes}
 
--- a row of bytes, each written as a number: the kinds, and the tokens
-abbrev pub byte_row : List ℕ → ℕ → List ℕ
-byte_row row n = row_bytes number_bytes (λ i. get_or row i 0) n
-
-unfoldable pub head_bytes : Design → List ℕ
-head_bytes d =
-    number_bytes 1 ++ (number_bytes (width_of d) ++ (number_bytes (height_of d) ++ number_bytes d.chip.block.0))
-
-unfoldable pub modules_bytes : Design → List ℕ
-modules_bytes d =
-    number_bytes d.modules ++ (row_bytes need_bytes (need_at d) d.modules ++ byte_row d.tokens (nodes d))
+-- the numbers that stand first: the form number, W, H and B
+abbrev pub head_numbers : Design → List ℕ
+head_numbers d = 1 ∷ width_of d ∷ height_of d ∷ d.chip.block.0 ∷ []
 
 -- the bytes of the longest lawful design: of each number as many as its limit takes; the last module's token is m+1
 abbrev pub widest : ℕ → ℕ

@@ -1,8 +1,8 @@
--- The row's bytes so far stand; the next number's lie within the whole row's, for which there is room. Assumes nothing.
-use Prim.Native.Nat.{◌≤◌}
+-- The bytes so far stand. Assumes nothing.
+use Rattle.std.specs.List.{flat_map}
+use lib.ListN.{take}
 use Rattle.putting.specs.Put.{Put}
-use Rattle.writing.specs.Parts.{byte_row}
 use Rattle.writing.proofs.put_row.Given as goal
 
-abbrev pub invariant-loop-i : goal.invariant-loop-i
-invariant-loop-i l = (l.i ≤ l.n) × Put l.initial.out l.at (byte_row l.row l.i) l.next l.out
+abbrev pub invariant-loop-x : goal.invariant-loop-x
+invariant-loop-x g l = Put l.initial.out l.at (flat_map g.T.Written.bytes (take l.x-index l.row)) l.next l.out
