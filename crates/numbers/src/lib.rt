@@ -43,6 +43,7 @@ fn third_byte(s: &[u8], start: usize, low: usize) -> NumberReply
 }
 
 // The second byte of the number that starts at `start`, and the third if it goes on, above the value of the first.
+#[tactic(auto, unfolding(rules::specs::Bytes::second_byte))]
 fn second_byte(s: &[u8], start: usize, low: usize) -> NumberReply
     requires { (start < length s.now) × (low < 128) }
     ensures { result ≡ reply_of (second_byte s.now start low) }
@@ -65,6 +66,7 @@ fn second_byte(s: &[u8], start: usize, low: usize) -> NumberReply
 }
 
 // The number at `at`: its first byte, and the others if it goes on.
+#[tactic(auto, unfolding(rules::specs::Bytes::number_at))]
 fn number_at(s: &[u8], at: usize) -> NumberReply
     ensures { result ≡ reply_of (number_at s.now at) }
 {
@@ -88,28 +90,31 @@ pub struct Reader<'a> {
     pub at: usize,
 }
 
-// A reader of `src` whose place is `at`.
-pub fn reader_at<'a>(src: &'a [u8], at: usize) -> Reader<'a>
-    ensures { (result.src ≡ src.entry) × (result.at ≡ at) }
-{
-    Reader { src, at }
-}
+impl<'a> Reader<'a> {
+    // A reader of `src` whose place is `at`.
+    pub fn new(src: &'a [u8], at: usize) -> Self
+        ensures { (result.src ≡ src.entry) × (result.at ≡ at) }
+    {
+        Reader { src, at }
+    }
 
-// The number at the reader's place.
-pub fn next<'a>(r: Reader<'a>) -> NumberReply
-    ensures { result ≡ reply_of (number_at r.entry.src.now r.entry.at) }
-{
-    number_at(r.src, r.at)
+    // The number at the reader's place.
+    pub fn number(self) -> NumberReply
+        ensures { result ≡ reply_of (number_at self.entry.src.now self.entry.at) }
+    {
+        number_at(self.src, self.at)
+    }
 }
 
 // The number at `at`, by way of a reader. The other crates take every number so: its parameters are plain.
 pub fn take_number(s: &[u8], at: usize) -> NumberReply
     ensures { result ≡ reply_of (number_at s.now at) }
 {
-    next(reader_at(s, at))
+    Reader::new(s, at).number()
 }
 
 // How many bytes `v` takes.
+#[tactic(auto, unfolding(rules::specs::Bytes::number_bytes))]
 pub fn number_len(v: usize) -> usize
     ensures { result ≡ length (number_bytes v) }
 {
@@ -123,6 +128,7 @@ pub fn number_len(v: usize) -> usize
 }
 
 // Puts `v` at `at`, low group first, and gives the position after it.
+#[tactic(auto, unfolding(rules::specs::Bytes::number_bytes))]
 pub fn put_number(buf: &mut [u8], at: usize, v: usize) -> usize
     requires { (v ≤ most_number) × (at + length (number_bytes v) ≤ length buf.old) }
     ensures { Put buf.old at (number_bytes v) result buf.new }
