@@ -6,7 +6,7 @@ mod names;
 ghost use Rattle.std.specs.Prelude.{◌≡◌};
 ghost use Rattle.fields.specs.Order.{after_number, value_at, place_of, need_number, need_or_token, after_kinds, field_of};
 
-use numbers::{NumberReply, take_number};
+use numbers::take_number;
 use rules::MOST_COLUMNS;
 
 // The numbers of a design, in the order of its bytes, and what follows them. Columns and modules are counted from 0, as everywhere;
@@ -39,8 +39,8 @@ fn after_number(s: &[u8], at: usize) -> usize
     ensures { result ≡ after_number s.now at }
 {
     match take_number(s, at) {
-        NumberReply::Number { value: _, next } => next,
-        NumberReply::Refused(_) => at,
+        Ok(taken) => taken.next,
+        Err(_) => at,
     }
 }
 
@@ -50,8 +50,8 @@ pub fn value_at(s: &[u8], at: usize) -> Option<usize>
     ensures { result ≡ value_at s.now at }
 {
     match take_number(s, at) {
-        NumberReply::Number { value, next: _ } => Some(value),
-        NumberReply::Refused(_) => None,
+        Ok(taken) => Some(taken.value),
+        Err(_) => None,
     }
 }
 

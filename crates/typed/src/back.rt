@@ -3,7 +3,7 @@ ghost use Rattle.std.specs.Prelude.{◌+◌, ◌≤◌, ◌<◌, ◌^◌, length
 ghost use Rattle.std.specs.Iterator.{at_most};
 
 use fields::{Field, Sizes, field_of, sizes_of};
-use numbers::{NumberReply, take_number};
+use numbers::take_number;
 use std::fmt;
 use std::fmt::Write;
 use telling::{Hex, Text};
@@ -39,8 +39,8 @@ fn first_of(s: &[u8]) -> (usize, Option<usize>)
     ensures { (0 < result.0) × (result.0 ≤ length s.now) }
 {
     match take_number(s, 0) {
-        NumberReply::Number { value, next } => (next, Some(value)),
-        NumberReply::Refused(_) => (1, None),
+        Ok(taken) => (taken.next, Some(taken.value)),
+        Err(_) => (1, None),
     }
 }
 
