@@ -23,7 +23,8 @@ use trees::left_children;
 // The stored lists of a design's nodes.
 fn lists_of<'a>(design: Design, work: &'a [u8]) -> Lists<'a>
     requires { LawfulDesign design × (work_of design ≤ length work.now) }
-    ensures { (result.board ≡ board_of design) × (result.nodes ≡ nodes design) × (result.work.now ≡ work.now) }
+    ensures of { (result.board ≡ board_of design) × (result.nodes ≡ nodes design) × (result.work.now ≡ work.now) }
+    ensures some { 1 ≤ result.nodes }
 {
     Lists {
         work,

@@ -12,3 +12,6 @@ overflow_sub-result c = omega (arith, limits _ c.requires.0)
 
 pub invariant_of-result : goal.invariant_of-result
 invariant_of-result c = record { lent = lent_of _ c.requires.0 c.requires.1 c.board_of.ensures }
+
+pub returns-clause-some : goal.returns-clause-some
+returns-clause-some c = omega (arith, limits _ c.requires.0)

@@ -1,12 +1,8 @@
 -- The slot lies in the bytes lent, and its bytes are the list's. Assumes nothing.
 use native.Mathlib.Omega.{arith}
-use Rattle.slots.proofs.Lending.{addressed, on_listed, slot_lent}
+use Rattle.slots.proofs.Lending.{on_listed, slot_lent}
 use Rattle.choosing.proofs.Slots.{read_slot}
 use Rattle.choosing.proofs.Lists.slot.Goals as goal
-
-pub slot_start-from-requires : goal.slot_start-from-requires
-slot_start-from-requires c =
-    let l = c.args.self.lent in let p = c.requires in addressed l c.args.t p.0 (on_listed l p.1)
 
 pub slice_bounds-result-end : goal.slice_bounds-result-end
 slice_bounds-result-end c =
