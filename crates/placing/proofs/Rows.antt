@@ -1,14 +1,13 @@
 -- Rows out, a module at a time: the rows of the first k modules stand, and the bytes past them stay. Assumes nothing.
-use mathlib.Core.Path.{◌≡◌, refl, ◌∙◌, ap}
+use mathlib.Core.Path.{◌≡◌, refl, ◌∙◌}
 use mathlib.Core.List.{List, ◌++◌}
 use Prim.Native.Nat.{ℕ, ◌+◌, ◌*◌, ◌≤◌}
-use native.Mathlib.Omega.{arith}
 use native.Mathlib.Numerals.{add-one}
-use lib.ListN.{length, drop, length-append, length-drop}
+use lib.ListN.{length, drop}
 use lib.Seq.{sets}
 use Rattle.rules.specs.Placement.{Placement}
 use Rattle.rules.specs.Choice.{row_of, rows_out}
-use Rattle.rules.proofs.RowsOut.{length_rows, row_more}
+use Rattle.rules.proofs.RowsOut.{row_more}
 
 pub record Out (k : ℕ) (p : Placement) (before after : List ℕ) : Type 0 where
   pub is : after ≡ rows_out k p ++ drop (4 * k) before
@@ -21,6 +20,3 @@ module _ {p : Placement} {before : List ℕ} where
   pub one_out : {k : ℕ} {after next : List ℕ} → 4 * k + 4 ≤ length before → Out k p before after → next ≡ sets after (4 * k) (row_of (p k))
       → Out (k + 1) p before next
   one_out {k} h o e = record { is = e ∙ rw (o.is, add-one) (row_more k p before h) }
-
-  pub same_long : {k : ℕ} {after : List ℕ} → 4 * k ≤ length before → Out k p before after → length after ≡ length before
-  same_long {k} h o = ap length o.is ∙ simp (length-append, length-drop) (omega (arith, length_rows k p))
