@@ -1,5 +1,5 @@
 // Bytes that lines lend.
-ghost use Rattle.std.specs.Prelude.{◌≡◌, ◌≤◌, length};
+ghost use Rattle.std.specs.Prelude.{◌≡◌, ◌≤◌, length, OnErr};
 
 use words::{Why, lend, poke};
 
@@ -20,14 +20,18 @@ impl<'a> Lent<'a> {
         Lent { all, count: 0 }
     }
 
-    // `N F` after a line's first word: lends n bytes, all f, if there are so many.
-    pub fn lend(&mut self, line: &[u8]) -> Result<(), Why> {
+    // `N F` after a line's first word: lends n bytes, all f, if there are so many; else as many stay lent.
+    pub fn lend(&mut self, line: &[u8]) -> Result<(), Why>
+        ensures { OnErr result (self.new.count ≡ self.old.count) }
+    {
         self.count = lend(line, self.all)?;
         Ok(())
     }
 
     // `A BYTES` after a line's first word: puts the bytes at A, if so many are lent.
-    pub fn poke(&mut self, line: &[u8]) -> Result<(), Why> {
+    pub fn poke(&mut self, line: &[u8]) -> Result<(), Why>
+        ensures { self.new.count ≡ self.old.count }
+    {
         let count = self.count;
         poke(line, &mut self.all[..count])
     }

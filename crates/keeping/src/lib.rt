@@ -4,7 +4,7 @@
 mod lent;
 mod requests;
 
-ghost use Rattle.std.specs.Prelude.{◌≡◌};
+ghost use Rattle.std.specs.Prelude.{◌≡◌, OnErr};
 
 pub use lent::Lent;
 pub use requests::{Request, is_kept, request_in};
@@ -32,8 +32,11 @@ impl<'a> Held<'a> {
         }
     }
 
-    // Does what a line's request asks; where the line is bad, what is held stays.
-    pub fn keep(&mut self, request: Request, line: &[u8]) -> Result<(), Why> {
+    // Does what a line's request asks; where the line is bad, the design stays, and as many bytes stay lent.
+    pub fn keep(&mut self, request: Request, line: &[u8]) -> Result<(), Why>
+        ensures design { OnErr result (self.new.design ≡ self.old.design) }
+        ensures lent { OnErr result ((self.new.work.count ≡ self.old.work.count) × (self.new.rows.count ≡ self.old.rows.count)) }
+    {
         match request {
             Request::Nothing => Ok(()),
             Request::Design => {
