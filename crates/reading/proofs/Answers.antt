@@ -2,10 +2,10 @@
 use Rattle.std.specs.Prelude.{Result, Ok, Err}
 use Rattle.std.specs.Result.{IsErrAnd}
 use Rattle.std.proofs.lemmas.Result.{err_from_is_err_and}
-use mathlib.Core.Path.{◌≡◌, refl}
+use mathlib.Core.Path.{◌≡◌, refl, sym, ap, ◌∙◌}
 use mathlib.Core.Bool.{Bool, true, false, ◌&&◌}
 use mathlib.Core.List.{List}
-use Prim.Native.Nat.{ℕ, ◌≤◌}
+use Prim.Native.Nat.{ℕ, ◌≤◌, ◌<◌}
 use native.Mathlib.Omega.{arith}
 use lib.Dec.{leb}
 use borrow.Author.Tests.{le-leb, leb-true}
@@ -52,7 +52,7 @@ pub limited_fits : (low most : ℕ) (s : List ℕ) (at : ℕ) {v next : ℕ} →
 limited_fits low most s at {v} e = (range_iff low most v).0 (taken_passes _ _ s at e)
 
 -- "kinds 0..2" as limits
-pub kind_limits : (s : List ℕ) (at : ℕ) → limited_at 0 last_kind s at ≡ checked_at lawful_kind BreaksLimits s at
+kind_limits : (s : List ℕ) (at : ℕ) → limited_at 0 last_kind s at ≡ checked_at lawful_kind BreaksLimits s at
 unfolding checked_at in_range
 kind_limits s at = go (number_at s at)
   where
@@ -62,5 +62,19 @@ kind_limits s at = go (number_at s at)
     go (took v n) = rw (le-leb 0 v (omega arith))
     go (refuse x) = refl
 
-pub kind_small : (s : List ℕ) (at : ℕ) {v next : ℕ} → checked_at lawful_kind BreaksLimits s at ≡ took v next → v ≤ last_kind
+kind_small : (s : List ℕ) (at : ℕ) {v next : ℕ} → checked_at lawful_kind BreaksLimits s at ≡ took v next → v ≤ last_kind
 kind_small s at e = leb-true _ _ (taken_passes _ _ s at e)
+
+-- a kind, whose limits are those of a number
+module _ (s : List ℕ) (at : ℕ) {r : Result (Taken ℕ) Refusal} (e : r ≡ reply_of (limited_at 0 last_kind s at)) where
+  kind_reply : r ≡ reply_of (checked_at lawful_kind BreaksLimits s at)
+  kind_reply = e ∙ ap reply_of (kind_limits s at)
+
+  pub kind_fits : {n : Taken ℕ} → r ≡ Ok n → n.value < 256
+  kind_fits q = let k = kind_small s at (was_taken _ kind_reply q) in omega arith
+
+  pub kind_read : {n : Taken ℕ} → r ≡ Ok n → Ok n ≡ reply_of (checked_at lawful_kind BreaksLimits s at)
+  kind_read q = sym q ∙ kind_reply
+
+  pub kind_unread : {x : Refusal} → r ≡ Err x → Err x ≡ reply_of (checked_at lawful_kind BreaksLimits s at)
+  kind_unread q = sym q ∙ kind_reply

@@ -1,5 +1,6 @@
 -- A row of things is read one after another into places that are lent. While the loop goes on, what is still to be read, put behind
 -- what has been read, is the whole row. Assumes nothing.
+use Rattle.std.specs.Prelude.{Result, Ok, Err}
 use Rattle.std.proofs.lemmas.List.{take_all, drop-replicate, take_more_set}
 use mathlib.Core.Path.{◌≡◌, refl, ◌∙◌}
 use mathlib.Core.List.{List, [], ◌∷◌, ◌++◌, append_assoc, append-nil}
@@ -8,6 +9,7 @@ use native.Mathlib.Omega.{arith}
 use lib.ListN.{length, set, take, drop, length-set, replicate}
 use Rattle.rules.specs.declared.Refusal.{Refusal}
 use Rattle.rules.specs.Bytes.{Took, took, refuse, and_then, row_at, padded}
+use Rattle.reading.specs.Stages.{RowRead}
 
 -- the first i places of the row have been read, and `rest` is still to be read
 pub record Reading {A : Type 0} (whole rest : Took (List A)) (i : ℕ) (row : List A) : Type 0 where
@@ -69,3 +71,20 @@ pub filled : {A : Type 0} (size : ℕ) (zeros : A) (row : List A) (n : ℕ) → 
     → row ++ drop n (replicate size zeros) ≡ padded size zeros row
 unfolding padded
 filled size zeros row n l = rw (l, drop-replicate)
+
+-- a row was read, or refused
+module _ {A : Type 0} (f : ℕ → Took A) (n at : ℕ) {m : ℕ} (row : List A) {r : Result ℕ Refusal} (R : RowRead (row_at f m at) row r)
+    (e : m ≡ n) where
+  pub row_taken : {end : ℕ} → r ≡ Ok end → row_at f n at ≡ took row end
+  row_taken {end} q = rw (← e) (go (row_at f m at) R)
+    where
+      go : (t : Took (List A)) → RowRead t row r → t ≡ took row end
+      go (took xs o) (p, k) = cc
+      go (refuse x) k = absurd (cc)
+
+  pub row_refused : {x : Refusal} → r ≡ Err x → row_at f n at ≡ refuse x
+  row_refused {x} q = rw (← e) (go (row_at f m at) R)
+    where
+      go : (t : Took (List A)) → RowRead t row r → t ≡ refuse x
+      go (took xs o) (p, k) = absurd (cc)
+      go (refuse y) k = cc

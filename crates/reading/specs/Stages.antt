@@ -1,11 +1,23 @@
 -- A design is read in four stages, in file order, each over the design that the last one left; Whole.antt, in proofs/, shows that
 -- they are the rules' reading.
-use Rattle.std.specs.Prelude.{List, [], ℕ, eqb}
+use Rattle.std.specs.Prelude.{◌≡◌, Result, Ok, Err, List, [], ℕ, eqb}
 use Rattle.rules.specs.declared.Chip.{Chip}
 use Rattle.rules.specs.declared.Design.{Design}
+use Rattle.rules.specs.declared.Refusal.{Refusal}
+use Rattle.numbers.specs.declared.Taken.{Taken}
+use Rattle.numbers.specs.Replies.{reply_of}
 use Rattle.rules.specs.declared.Refusal.TheVariants.{WrongForm, BreaksLimits}
 use Rattle.rules.specs.Design.{most_columns, most_rows, lawful_kind, most_modules, most_tokens, no_need, nodes, width_of, with_chip, with_modules, with_tokens}
-use Rattle.rules.specs.Bytes.{Took, took, and_then, checked_at, limited_at, row_at, need_of, tokens_at, padded, chip_from, design_from}
+use Rattle.rules.specs.Bytes.{Took, took, refuse, and_then, checked_at, limited_at, row_at, need_of, tokens_at, padded, chip_from, design_from}
+
+-- what a reader of one thing answers is what the rules take
+abbrev pub Answers : {A : Type 0} → (ℕ → Took A) → (ℕ → Result (Taken A) Refusal → Type 0) → Type 0
+Answers f post = (at : ℕ) (r : _) → post at r → r ≡ reply_of (f at)
+
+-- the row that the rules take stands in its places; or the refusal is theirs
+abbrev pub RowRead : {A : Type 0} → Took (List A) → List A → Result ℕ Refusal → Type 0
+RowRead (took xs end) row r = (row ≡ xs) × (r ≡ Ok end)
+RowRead (refuse e) row r = r ≡ Err e
 
 -- the form number, then W, H and B
 unfoldable pub sizes_at : List ℕ → Took Design

@@ -1,13 +1,13 @@
 // Reading a design from bytes: each number is judged as it is read, and the first refusal is the reply.
 #![tactic(auto)]
 
-ghost use Rattle.std.specs.Prelude.{◌≡◌, [], ◌≤◌, eqb};
-ghost use Rattle.rules.specs.declared.Refusal.TheVariants.{WrongForm};
-ghost use Rattle.rules.specs.Design.{most_columns, most_modules};
-ghost use Rattle.rules.specs.Bytes.{checked_at, limited_at, need_of, chip_from, design_from, design_at};
+ghost use Rattle.std.specs.Prelude.{◌≡◌, [], ℕ, ◌≤◌, eqb, length};
+ghost use Rattle.rules.specs.declared.Refusal.TheVariants.{WrongForm, BreaksLimits};
+ghost use Rattle.rules.specs.Design.{most_columns, most_modules, lawful_kind};
+ghost use Rattle.rules.specs.Bytes.{Took, row_at, checked_at, limited_at, need_of, chip_from, design_from, design_at};
 ghost use Rattle.rules.specs.Service.{Reads};
 ghost use Rattle.numbers.specs.Replies.{reply_of};
-ghost use Rattle.reading.specs.Stages.{sizes_at, kinds_at, needs_at, tree_at};
+ghost use Rattle.reading.specs.Stages.{Answers, RowRead, sizes_at, kinds_at, needs_at, tree_at};
 
 use numbers::{NumberReply, Taken};
 use rules::{Chip, Columns, Design, Handed, LAST_KIND, MOST_COLUMNS, MOST_MODULES, MOST_ROWS, MOST_TOKENS, Need, Refusal, Rows};
@@ -100,6 +100,38 @@ fn read_sizes(s: &[u8]) -> Result<Taken<Design>, Refusal>
     })
 }
 
+// A row of things, each read where the last one ended; the position after the last.
+fn read_row<T, F>(row: &mut [T], at: usize, read: F) -> Result<usize, Refusal>
+where
+    T: Copy,
+    F: Fn(usize) -> Result<Taken<T>, Refusal>,
+    requires { F.IsAlwaysCallable read }
+    ensures { (f : ℕ → Took T) → Answers f (F.post read) → RowRead (row_at f (length row.old) at) row.new result }
+{
+    let mut next = at;
+    for x in row.iter_mut() {
+        let taken = read(next)?;
+        *x = taken.value;
+        next = taken.next;
+    }
+    Ok(next)
+}
+
+// The kind at `at`.
+#[tactic(auto, using(crate::proofs::Answers::kind_fits, crate::proofs::Answers::kind_read, crate::proofs::Answers::kind_unread))]
+fn read_kind(s: &[u8], at: usize) -> Result<Taken<u8>, Refusal>
+    ensures { result ≡ reply_of (checked_at lawful_kind BreaksLimits s.now at) }
+{
+    let number = limited(s, at, 0, LAST_KIND as usize);
+    let Ok(taken) = number else {
+        return Err(number.unwrap_err());
+    };
+    Ok(Taken {
+        value: taken.value as u8,
+        next: taken.next,
+    })
+}
+
 // The kinds of the columns.
 fn read_kinds(s: &[u8], last: Taken<Design>) -> Result<Taken<Design>, Refusal>
     requires { last.value.chip.width.0 ≤ most_columns }
@@ -107,19 +139,12 @@ fn read_kinds(s: &[u8], last: Taken<Design>) -> Result<Taken<Design>, Refusal>
 {
     let mut design = last.value;
     let mut kinds = [0u8; MOST_COLUMNS];
-    let mut at = last.next;
-    for kind in &mut kinds[..design.chip.width.0] {
-        let number = limited(s, at, 0, LAST_KIND as usize);
-        let Ok(taken) = number else {
-            return Err(number.unwrap_err());
-        };
-        *kind = taken.value as u8;
-        at = taken.next;
-    }
+    let row = &mut kinds[..design.chip.width.0];
+    let next = read_row(row, last.next, |at| read_kind(s, at))?;
     design.chip.kinds = kinds;
     Ok(Taken {
         value: design,
-        next: at,
+        next,
     })
 }
 
@@ -155,6 +180,7 @@ fn read_need(s: &[u8], at: usize) -> Result<Taken<Need>, Refusal>
 }
 
 // The count of modules, and the need of each.
+#[tactic(auto, using(crate::proofs::Answers::replies), unfolding(crate::specs::Stages::needs_at))]
 fn read_needs(s: &[u8], last: Taken<Design>) -> Result<Taken<Design>, Refusal>
     ensures { result ≡ reply_of (needs_at s.now last.value last.next) }
 {
@@ -164,17 +190,13 @@ fn read_needs(s: &[u8], last: Taken<Design>) -> Result<Taken<Design>, Refusal>
         return Err(number.unwrap_err());
     };
     let mut needs = [NO_NEED; MOST_MODULES];
-    let mut at = modules.next;
-    for need in &mut needs[..modules.value] {
-        let taken = read_need(s, at)?;
-        *need = taken.value;
-        at = taken.next;
-    }
+    let row = &mut needs[..modules.value];
+    let next = read_row(row, modules.next, |at| read_need(s, at))?;
     design.modules = modules.value;
     design.needs = needs;
     Ok(Taken {
         value: design,
-        next: at,
+        next,
     })
 }
 

@@ -1,32 +1,25 @@
--- A kind is a number within its limits. The places that are not read stay zero. Assumes nothing.
-use native.Mathlib.Omega.{arith}
+-- The places that are not read stay zero. Assumes nothing.
+use Prim.Native.Nat.{ℕ}
 use borrow.Author.Rules.{rules}
-use Rattle.rules.specs.Design.{most_columns}
-use Rattle.numbers.proofs.Answers.{was_taken, was_refused}
+use Rattle.std.proofs.lemmas.Result.{err_from_is_err_and}
+use Rattle.rules.specs.declared.Refusal.TheVariants.{BreaksLimits}
+use Rattle.rules.specs.Design.{most_columns, lawful_kind, width_of}
+use Rattle.rules.specs.Bytes.{checked_at}
 use Rattle.reading.specs.Stages.{kinds_at}
-use Rattle.reading.proofs.Answers.{kind_limits, kind_small}
-use Rattle.reading.proofs.Rows.{row_begun, next_read, next_refused, row_read, filled}
+use Rattle.reading.proofs.Rows.{row_taken, row_refused, filled}
 use Rattle.reading.proofs.read_kinds.Goals as goal
 
-pub loop-kind-init : goal.loop-kind-init
-loop-kind-init c = row_begun _ (search rules)
-
-pub returns-in_default : goal.returns-in_default
+pub returns-in_err-next : goal.returns-in_err-next
 unfolding kinds_at
-returns-in_default c =
-    let e = rw kind_limits at c.limited-number.ensures in
-    rw (next_refused _ c.loop-kind.invariant (omega arith) (was_refused _ e c.unwrap_err.ensures))
-
-pub overflow_cast-kind : goal.overflow_cast-kind
-overflow_cast-kind c =
-    let e = rw kind_limits at c.limited-number.ensures in
-    let k = kind_small _ _ (was_taken _ e c.in-Ok.is) in search rules
-
-pub loop-kind-preserved : goal.loop-kind-preserved
-loop-kind-preserved c =
-    let e = rw kind_limits at c.limited-number.ensures in
-    next_read _ c.loop-kind.invariant (omega arith) (was_taken _ e c.in-Ok.is)
+returns-in_err-next c =
+    let s = c.args.s.now in let d = c.args.last.value in
+    let r = c.read_row.ensures (checked_at lawful_kind BreaksLimits s) (λ i r p. search rules) in
+    let p = err_from_is_err_and c.from_residual.result c.from_residual.ensures.1 in
+    rw (p.1, p.2, row_refused _ (width_of d) _ c.read_row.new.row r (search rules) c.in_err-next.was)
 
 pub returns : goal.returns
 unfolding kinds_at
-returns c = rw (row_read _ c.loop-kind.invariant (omega arith), filled most_columns 0 _ _ c.loop-kind.invariant.long)
+returns c =
+    let s = c.args.s.now in let d = c.args.last.value in
+    let r = c.read_row.ensures (checked_at lawful_kind BreaksLimits s) (λ i r p. search rules) in
+    rw (row_taken _ (width_of d) _ c.read_row.new.row r (search rules) c.in_ok-next.was, filled {A = ℕ} most_columns 0 c.read_row.new.row (width_of d) (search rules))

@@ -2,6 +2,7 @@
 use Rattle.std.specs.Prelude.{Some, None}
 use Rattle.std.proofs.lemmas.Result.{err_from_is_err_and}
 use mathlib.Core.Path.{◌≡◌, sym, ◌∙◌}
+use Prim.Native.Nat.{◌<◌}
 use native.Mathlib.Omega.{arith}
 use borrow.Author.Rules.{rules}
 use Rattle.rules.specs.declared.Refusal.TheVariants.{BadToken}
@@ -43,8 +44,10 @@ returns-in_err-stack c =
 
 pub overflow_cast-byte : goal.overflow_cast-byte
 overflow_cast-byte c =
+    let v = c.in-Ok.taken.value in
     let q = was_taken _ c.take_number-number.ensures c.in-Ok.is in
-    omega (arith, token_byte c.loop-byte.invariant (omega arith) q (search rules) (kept (goal.at.overflow_cast-byte c).In_ok-stack))
+    let small : v < 256 = token_byte c.loop-byte.invariant (omega arith) q (search rules) (kept (goal.at.overflow_cast-byte c).In_ok-stack) in
+    omega arith
 
 pub loop-byte-preserved : goal.loop-byte-preserved
 loop-byte-preserved c =
