@@ -1,6 +1,6 @@
 -- The stack decides as 01's rule does. A cut looks only at how many things stand, and a module only at whether it stands already; the
 -- stack keeps both, so by cases on the token it refuses where the rule refuses, and otherwise mirrors what then stands. Assumes nothing.
-use Rattle.std.specs.Prelude.{Option, Some, None, Ok, Err}
+use Rattle.std.specs.Prelude.{Option, Some, None, Err}
 use mathlib.Core.Path.{◌≡◌, refl, ◌∙◌}
 use mathlib.Core.Bool.{Bool, true, false, not, ◌&&◌, ◌||◌}
 use mathlib.Core.List.{List, [], ◌∷◌}
@@ -15,7 +15,7 @@ use borrow.Author.Tests.{lt-ltb, le-ltb, ltb-true, eq-eqb, ne_eqb}
 use Rattle.rules.specs.declared.Direction.{Direction}
 use Rattle.rules.specs.declared.Token.{Token}
 use Rattle.rules.specs.declared.Token.TheVariants.{Cut, Module, Beyond}
-use Rattle.rules.specs.declared.Refusal.TheVariants.{BadToken, NotOneThing}
+use Rattle.rules.specs.declared.Refusal.TheVariants.{BadToken}
 use Rattle.rules.specs.Tree.{Tree, leaf, has, Standing, refused, things, stands, joined, added, after, standing}
 use Rattle.rules.specs.Design.{most_modules, tree_test}
 use Rattle.rules.proofs.Standing.{joined_stands}
@@ -166,16 +166,3 @@ module _ (m : ℕ) (token : ℕ → Token) where
     unfolding standing
     stands_no_more e n l =
         rw (stays_refused (suc i) n l (rw (standing, S.stand) (token_refused m i (token i) h S.mirrors e)))
-
-  -- with the tokens used up, the count tells whether one thing stands
-  module _ {n : ℕ} {s : Stack} (S : Stands m token n s) where
-    pub stands_one : s.count ≡ 1 → tree_test (standing m token n) ≡ (Ok tt)
-    stands_one e = rw (S.stand, (one_thing S.mirrors e).1)
-
-    pub stands_other : (s.count ≡ 1 → ⊥) → tree_test (standing m token n) ≡ Err (NotOneThing 0)
-    stands_other e = rw S.stand (go S.trees S.mirrors)
-      where
-        go : (ts : List Tree) → Mirrors s ts → tree_test (things ts) ≡ Err (NotOneThing 0)
-        go [] M = refl
-        go (t ∷ []) M = absurd (e M.count)
-        go (t ∷ (u ∷ ts)) M = refl

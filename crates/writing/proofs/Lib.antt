@@ -1,5 +1,4 @@
 -- What the proofs share, and what a caller's proof cites.
 mod Lengths
 mod Putting
-mod Answers
 pub mod Longest
