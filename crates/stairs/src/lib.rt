@@ -1,7 +1,8 @@
 // The stair test that place and edit run over every slot in the work bytes.
 #![tactic(auto)]
 
-ghost use Rattle.std.specs.Prelude.{◌≡◌, suc, ◌+◌, ◌≤◌, ◌<◌, length};
+ghost use Rattle.std.specs.Prelude.{◌≡◌, true, suc, ◌+◌, ◌≤◌, ◌<◌, length};
+ghost use Rattle.std.proofs.Math.Bool.{So};
 ghost use Rattle.rules.specs.Search.{all};
 ghost use Rattle.rules.specs.Design.{most_rows};
 ghost use Rattle.rules.proofs.Test.{is_stair};
@@ -20,6 +21,13 @@ fn all_zero(bytes: &[u8]) -> bool
         zero = zero & (*byte == 0);
     }
     zero
+}
+
+// Eight bytes, and all of them zero. Their number is written out, so that no loop is left when this is compiled.
+fn eight_zero(part: &[u8]) -> bool
+    ensures { result ≡ true → So (all (length part.now) (zero_at part.now)) }
+{
+    part.len() == 8 && all_zero(&part[..8])
 }
 
 // The height that the next nonzero byte has to stay below, after these bytes of a slot, so many columns of which are still on the chip; none if
@@ -51,7 +59,7 @@ fn is_stair(slot: &[u8], board: Board, at: Corner) -> bool
     let mut columns = board.width.0 - at.x.0;
     let mut low = (board.height.0 - at.y.0 + 1) as u8;
     for part in slot.chunks(8) {
-        if !all_zero(part) {
+        if !eight_zero(part) {
             let Some(next) = walk(part, columns, low) else {
                 return false;
             };

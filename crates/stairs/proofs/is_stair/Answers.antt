@@ -3,7 +3,7 @@
 use mathlib.Core.Path.{sym, ◌∙◌}
 use Rattle.stairs.proofs.Walking.{all_left, zeros_left, walk_left, no_stair, stair_walked}
 use Rattle.stairs.proofs.is_stair.Goals as goal
-use Rattle.stairs.proofs.is_stair.Goals.{then-not-all_zero+in-Some-walk, else-not-all_zero}
+use Rattle.stairs.proofs.is_stair.Goals.{then-not-eight_zero+in-Some-walk, else-not-eight_zero}
 
 pub loop-part-init : goal.loop-part-init
 loop-part-init c = rw (c.into_iter-part-iterator.ensures.into_iter_gives, c.chunks-part-items.ensures.rest) all_left
@@ -18,9 +18,9 @@ returns-in_default c =
 pub loop-part-preserved : goal.loop-part-preserved
 loop-part-preserved c =
     let z = c.loop-part.invariant in let cut = c.in-Some.ensures.steps.1.0 in let e = c.saturating_sub-columns.ensures in
-    elim c.if-not-all_zero.branch [
-      | then-not-all_zero+in-Some-walk w ↦ rw w.low-is (walk_left z _ _ cut e (sym w.in-Some-walk.is ∙ w.walk.ensures))
-      | else-not-all_zero w ↦ rw w.low-is (zeros_left z _ _ cut e (sym c.all_zero.ensures ∙ w.if-not-all_zero.false))
+    elim c.if-not-eight_zero.branch [
+      | then-not-eight_zero+in-Some-walk w ↦ rw w.low-is (walk_left z _ _ cut e (sym w.in-Some-walk.is ∙ w.walk.ensures))
+      | else-not-eight_zero w ↦ rw w.low-is (zeros_left z _ _ cut e (c.eight_zero.ensures w.if-not-eight_zero.false))
     ]
 
 pub returns : goal.returns
