@@ -62,8 +62,7 @@ pub struct Cut {
     pub right: usize,
 }
 
-// stays: each of the five is a match on the direction: over a pair of numbers, one for both would let a row count stand
-// for a column count, which 01's language form forbids.
+// stays: each is a match on the direction; one function over two numbers would let rows stand for columns (01).
 impl Cut {
     // How many places a line has.
     fn places(self) -> Place
@@ -167,8 +166,7 @@ fn fill_line(work: &[u8], cut: Cut, on: Line, line: &mut [u8; LINE_SIZE])
 }
 
 // Lays a chunk of a filled slot, none of it lower than `top`, over the top sides.
-// stays: a constant count at two places of larger buffers, here and below, is one vector step; of a zip with iter_mut a
-// proof learns nothing.
+// stays: a constant count, here and below, is one vector step; of a zip with iter_mut a proof learns nothing.
 fn lay_chunk(line: &[u8; LINE_SIZE], from: usize, top: u8, tops: &mut [u8; TOPS_SIZE], to: usize)
     requires { (from + chunk ≤ line_size) × (to + chunk ≤ tops_size) }
     ensures { RunLaid line.now from top tops.old to chunk tops.new }

@@ -254,8 +254,7 @@ fn stop_at(slot: &[u8]) -> u8
     }
 }
 
-// stays: the two scans jump from left shape to left shape in opposite ways and hold other bounds, a width and a stop
-// here, a height there; over a direction they would share the slot's start alone.
+// stays: the two scans go over the left shapes in opposite ways, and hold other bounds from one to the next.
 // Scans at a corner of a vertical cut, the left shapes from the widest on, which is the lowest.
 fn scan_vertical(children: &[u8], cut: Cut, at: Corner, slot: &mut [u8])
     requires { ScanReady cut at children.now slot.old }
