@@ -4,7 +4,7 @@ use blocks::Region;
 use check::same;
 use rows::row_out;
 use rules::{Columns, Corner, MOST_MODULES, Rectangle, Rows, Shape};
-use words::{count, is_fine, number_in, numbers_in, word, words};
+use words::{count, number_in, numbers_in, word, words};
 
 // Bytes for the rows of any design.
 pub const ROWS_SIZE: usize = 4 * MOST_MODULES;
@@ -47,21 +47,18 @@ fn header_in(line: &[u8]) -> Option<Header> {
         b"svg" => Format::Svg,
         _ => return None,
     };
-    let length = number_in(word(line, 1));
-    if count(line) != 2 || !is_fine(length.why) {
+    if count(line) != 2 {
         return None;
     }
-    Some(Header {
-        format,
-        length: length.n,
-    })
+    let length = number_in(word(line, 1)).ok()?;
+    Some(Header { format, length })
 }
 
 // The plan's answer in its first line: `plan 0 W H`, or `plan NUMBER POSITION`.
 fn plan_in(line: &[u8]) -> Option<Result<Shape, Replied>> {
     let mut said = [0usize; 3];
-    let numbers = is_fine(numbers_in(b' ', words(line, 1, 3), &mut said))
-        || is_fine(numbers_in(b' ', words(line, 1, 2), &mut said));
+    let numbers = numbers_in(b' ', words(line, 1, 3), &mut said).is_ok()
+        || numbers_in(b' ', words(line, 1, 2), &mut said).is_ok();
     let [number, first, second] = said;
     let many = if number == 0 { 4 } else { 3 };
     if !numbers || !same(word(line, 0), b"plan") || count(line) != many {
@@ -96,7 +93,7 @@ pub fn parts_in(input: &[u8]) -> Option<Parts<'_>> {
 // The region of module k that a line says, `k x y w h`: its numbers are bytes.
 fn region_in(line: &[u8], k: usize) -> Option<Region> {
     let mut said = [0usize; 5];
-    if count(line) != 5 || !is_fine(numbers_in(b' ', line, &mut said)) {
+    if count(line) != 5 || numbers_in(b' ', line, &mut said).is_err() {
         return None;
     }
     let [number, x, y, w, h] = said;
