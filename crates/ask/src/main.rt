@@ -27,12 +27,12 @@ fn answer(
     out: &mut [u8],
 ) -> bool {
     let mut text = Text::new(out);
-    let put = if reading.is_long() {
-        put_bad(number, Why::TooLong, &mut text)
+    if reading.is_long() {
+        put_bad(number, Why::TooLong, &mut text);
     } else {
-        serve(reading.line(), number, held, &mut text)
-    };
-    put.is_ok() && write_or_say(rt, text.said()).is_ok()
+        serve(reading.line(), number, held, &mut text);
+    }
+    write_or_say(rt, text.said()).is_ok()
 }
 
 // Reads a line and serves it, if there is one, and says whether to go on.

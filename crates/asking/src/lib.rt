@@ -40,16 +40,17 @@ fn answered(line: &[u8], held: &mut Held, text: &mut Text) -> Result<fmt::Result
     }
 }
 
-// Puts the answer to the bad line of this number.
-pub fn put_bad(number: usize, why: Why, text: &mut Text) -> fmt::Result {
-    writeln!(text, "bad {number}: {why}")
+// Puts the answer to the bad line of this number. A text takes what has room, so that putting never fails.
+pub fn put_bad(number: usize, why: Why, text: &mut Text) {
+    let _ = writeln!(text, "bad {number}: {why}");
 }
 
-// Serves the line of this number: keeps what it holds or lends, or asks a service, and puts the answer, if there is one. A text
-// takes what has room, so that putting never fails.
-pub fn serve(line: &[u8], number: usize, held: &mut Held, text: &mut Text) -> fmt::Result {
+// Serves the line of this number: keeps what it holds or lends, or asks a service, and puts the answer, if there is one.
+pub fn serve(line: &[u8], number: usize, held: &mut Held, text: &mut Text) {
     match answered(line, held, text) {
-        Ok(put) => put,
+        Ok(put) => {
+            let _ = put;
+        }
         Err(why) => put_bad(number, why, text),
     }
 }

@@ -79,15 +79,6 @@ impl<'a> Text<'a> {
             self.put_byte(*b);
         }
     }
-
-    // Puts numbers in decimal, such a byte before each.
-    pub fn put_numbers(&mut self, parting: u8, numbers: &[usize]) -> fmt::Result {
-        for n in numbers {
-            self.put_byte(parting);
-            write!(self, "{n}")?;
-        }
-        Ok(())
-    }
 }
 
 // So `write!` puts what it prints.
