@@ -51,7 +51,12 @@ fn say_written(written: Result<usize, Refusal>, value: &mut usize) -> usize
 }
 
 // The number of what plan and place answer, the box and the value.
-fn say_planned(planned: Result<Shape, Refusal>, width: &mut usize, height: &mut usize, value: &mut usize) -> usize
+fn say_planned(
+    planned: Result<Shape, Refusal>,
+    width: &mut usize,
+    height: &mut usize,
+    value: &mut usize,
+) -> usize
     ensures { boxed result value width height ≡ planned_answer planned }
 {
     match planned {
@@ -70,7 +75,12 @@ fn say_planned(planned: Result<Shape, Refusal>, width: &mut usize, height: &mut 
 }
 
 // The number of what score answers, both values and the value.
-fn say_scored(scored: Result<Score, Refusal>, total: &mut f64, last: &mut f64, value: &mut usize) -> usize
+fn say_scored(
+    scored: Result<Score, Refusal>,
+    total: &mut f64,
+    last: &mut f64,
+    value: &mut usize,
+) -> usize
     ensures { marked result value total last ≡ scored_answer scored }
 {
     match scored {

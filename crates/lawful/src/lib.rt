@@ -8,7 +8,10 @@ ghost use Rattle.rules.specs.Design.{most_tokens, most_columns, last_kind, most_
 ghost use Rattle.lawful.specs.Tested.{Tested};
 ghost use Rattle.lawful.specs.Stack.{empty_stack, after_cut, after_module, after_token};
 
-use rules::{Chip, Design, LAST_KIND, MOST_COLUMNS, MOST_MODULES, MOST_NUMBER, MOST_ROWS, Need, Refusal, Token};
+use rules::{
+    Chip, Design, LAST_KIND, MOST_COLUMNS, MOST_MODULES, MOST_NUMBER, MOST_ROWS, Need, Refusal,
+    Token,
+};
 use tokens::token_of;
 
 // Of the things that the tokens read so far leave standing: the modules in them, and how many things they are.

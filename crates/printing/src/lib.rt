@@ -102,7 +102,12 @@ fn put_plan(out: &mut [u8], numbers: &[usize]) -> usize
 }
 
 // Puts the text of an answer, with the rows of its modules, and gives the text's length.
-pub fn plan_text(answer: Result<Shape, Refusal>, modules: usize, rows: &[u8], out: &mut [u8]) -> usize
+pub fn plan_text(
+    answer: Result<Shape, Refusal>,
+    modules: usize,
+    rows: &[u8],
+    out: &mut [u8],
+) -> usize
     requires { TextLent modules rows.now out.old }
     ensures { Put out.old 0 (plan_text answer modules rows.now) result out.new }
 {

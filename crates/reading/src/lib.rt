@@ -10,7 +10,10 @@ ghost use Rattle.numbers.specs.Replies.{reply_of};
 ghost use Rattle.reading.specs.Stages.{Answers, RowRead, sizes_at, kinds_at, needs_at, tree_at};
 
 use numbers::{NumberReply, Taken};
-use rules::{Chip, Columns, Design, Handed, LAST_KIND, MOST_COLUMNS, MOST_MODULES, MOST_ROWS, MOST_TOKENS, Need, Refusal, Rows};
+use rules::{
+    Chip, Columns, Design, Handed, LAST_KIND, MOST_COLUMNS, MOST_MODULES, MOST_ROWS, MOST_TOKENS,
+    Need, Refusal, Rows,
+};
 use tokens::token_of_number;
 
 // A need before it is read.

@@ -18,7 +18,12 @@ fn main(rt: HostRuntime) {
     let mut line = Text::new(&mut line);
     for case in Cases(read) {
         line.clear();
-        say(&case[..case.len().min(MOST_INPUT)], &mut work, &mut rows, &mut line);
+        say(
+            &case[..case.len().min(MOST_INPUT)],
+            &mut work,
+            &mut rows,
+            &mut line,
+        );
         let _ = write_or_say(&rt, line.said());
     }
 }

@@ -19,7 +19,12 @@ use typed::{is_text, is_typed};
 pub const LINE_SIZE: usize = 512;
 
 // What plan answers for a design that was read. Of a lawful design it refuses nothing else.
-fn put_planned(line: &mut Text, design: Design, planned: Result<Shape, Refusal>, lent: usize) -> fmt::Result
+fn put_planned(
+    line: &mut Text,
+    design: Design,
+    planned: Result<Shape, Refusal>,
+    lent: usize,
+) -> fmt::Result
     requires { LawfulDesign design }
 {
     match planned {
