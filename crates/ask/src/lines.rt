@@ -11,7 +11,7 @@ enum Source {
     Failed,
 }
 
-// stays: no heap, so lines stand in one buffer, and three places in it, which read_on moves, say where.
+// stays: (a) no heap: lines stand in one buffer, and three places and a flag say where, and whether a front was dropped.
 // Of the bytes read, those from `from` to `to` are not served yet, and the line that they begin goes to `end`. It is long if its
 // start had no room and is dropped already.
 #[derive(Drop)]
@@ -86,8 +86,8 @@ impl<'a> Reading<'a> {
         }
     }
 
-    // Reads until a whole line is there, or the input is over. A proved loop has to end, so the turns are counted, to a number
-    // that no run reaches.
+    // Reads until a whole line is there, or the input is over.
+    // stays: (a) `forever` needs a Wait, so the turns are counted, to a number that no run reaches.
     pub fn read_line(&mut self, rt: &(impl Input + Eprint)) {
         for _ in 0..usize::MAX {
             let rest = &self.input[self.from..self.to];

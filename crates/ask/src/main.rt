@@ -62,6 +62,7 @@ fn run(
 ) {
     let mut reading = Reading::new(input);
     let mut held = Held::nothing(work, rows);
+    // stays: (d) the number is the line's, which a bad line's answer says, and counts the turns too.
     for number in 1..usize::MAX {
         if !step(rt, &mut reading, number, &mut held, out) {
             return;

@@ -10,6 +10,7 @@ use telling::{Hex, Text};
 use words::{Why, numbers_in, words};
 
 // Where the slot of node t stands at a corner of a chip so wide and high.
+// stays: (d) the line says a node and a corner by three numbers, tested one by one before there is a corner, here and below.
 fn start_of(width: usize, height: usize, t: usize, x: usize, y: usize) -> usize
     requires { (width ≤ 64) × (height ≤ 64) × (t < 31) × (x < width) × (y < height) }
 {

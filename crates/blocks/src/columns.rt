@@ -71,6 +71,7 @@ impl<'a> Grid<'a> {
             rams: 0,
             multipliers: 0,
         };
+        // stays: (d) the ranges, here and below, name columns and blocks of a column, and index no slice.
         for x in 0..self.width() {
             if r.has_column(x) {
                 let column = self.column(x);
@@ -106,6 +107,7 @@ impl<'a> Column<'a> {
     }
 
     // The number of its kind.
+    // stays: (a) `kind_at` and `column_of` of the rules, which the contracts name, take it, here and below.
     fn number(self) -> u8
         ensures { result ≡ kind_at self.entry.grid.chip.now self.entry.x }
     {
@@ -165,7 +167,6 @@ impl<'a> Column<'a> {
 }
 
 // How many blocks a column of this kind has. In a CLB column each row is a block, a CLB.
-// stays: the number of a kind, here and below: `column_of` of the rules, which the contract names, takes it
 fn many_of(grid: Grid, kind: u8) -> usize
     ensures { (result ≡ (column_of grid.entry.chip.now kind).many) × (result ≤ most_rows) }
 {

@@ -118,7 +118,8 @@ fn edit_into(
     if let Err(e) = handed.reply {
         return say_refused(e, value);
     }
-    say_written(write(handed.design, out), value)
+    let next = handed.design;
+    say_written(write(next, out), value)
 }
 
 // Reads a design and edits it.
@@ -193,6 +194,7 @@ pub extern "C" fn cellweaver_sizes(
 }
 
 // Writes a design.
+// stays: (a) the C interface, here and below: one exported function for each service, which all begin with reading.
 #[unsafe(no_mangle)]
 pub extern "C" fn cellweaver_write(bytes: &[u8], out: &mut [u8], value: &mut usize) -> usize
     ensures { AskedWrite (given bytes) (lent out) (said result value) }

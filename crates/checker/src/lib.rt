@@ -15,7 +15,7 @@ use rules::{Columns, Corner, Design, Direction, MOST_TOKENS, Rectangle, Refusal,
 use tokens::token_of;
 
 // A pass over the tokens: the extents of the things standing, and how many there are.
-// stays: a count beside an array, in fixed memory: no list grows where no heap is
+// stays: (a) a count beside an array, in fixed memory: no list grows where no heap is
 #[derive(Clone, Copy)]
 struct Pass {
     pub extents: [Extent; MOST_TOKENS],
@@ -130,6 +130,7 @@ fn judge_cuts(d: Design, rows: &[u8]) -> Result<(), Refusal>
 {
     let nodes = 2 * d.modules - 1;
     let mut pass = at_start();
+    // stays: (d) t is the token's position, which the refusal says, and below k the module.
     for t in 0..nodes {
         let Some(next) = after_token(pass, token_of(d.tokens[t]), rows) else {
             return Err(Refusal::CutNotKept(t));

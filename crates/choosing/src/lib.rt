@@ -56,7 +56,7 @@ impl<'a> Lists<'a> {
 }
 
 // The shape that byte j of a slot stores; its height is 0 where there is none.
-// stays: that 0 is the slot's own form (01, Lists), and `makes_whole` and `pair_with` test it (here and below, `h.0 == 0`).
+// stays: (a) that 0 is the slot's own form (01, Lists), and `makes_whole` and `pair_with` test it (here and below, `h.0 == 0`).
 fn shape_at(j: usize, byte: u8) -> Shape
     requires { j < most_columns }
     ensures { (result ≡ shape (suc j) byte) × Storable result }
@@ -316,7 +316,7 @@ pub fn lay_out(
         LaysOut l.board (slots_on l.board l.work.now) tokens lefts l.nodes shape result }
 {
     let mut descent = first_descent(lists.nodes, shape);
-    // stays: t is the node, which going down takes too, and not only a place in two arrays.
+    // stays: (d) t is the node, which going down takes too, and not only a place in two arrays.
     for t in (0..lists.nodes).rev() {
         descent = down_node(lists, tokens[t], lefts[t], t, descent)?;
     }

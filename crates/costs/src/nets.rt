@@ -7,7 +7,7 @@ ghost use Rattle.costs.specs.Places.{net_with, Split, NetsFrom};
 
 use rules::{MOST_MODULES, MOST_NETS, Net};
 
-// stays: no heap, so nets have fixed places, and `score` takes them with their number beside them, here and in `Net`.
+// stays: (a) no heap: nets have fixed places, and `Cost` and `Net` of rules have the count beside them.
 // The nets in their places, and how many there are.
 #[derive(Clone, Copy)]
 pub struct Taken {
@@ -60,6 +60,7 @@ pub fn nets_in(bytes: &[u8]) -> Taken
 {
     let mut nets = [net_with(&[]); MOST_NETS];
     let mut rest = bytes;
+    // stays: (d) the number of nets so far is what is answered, and indexes the next place alone.
     for count in 0..MOST_NETS {
         if rest.is_empty() {
             return Taken { nets, count };

@@ -13,7 +13,7 @@ fn no_term() -> Term
     Term::Area(f64::NAN)
 }
 
-// stays: a kind is a number here since score_slices takes kinds so, whose theorems (kind_number) and C interface hold it.
+// stays: (a) a kind is a number here since score_slices takes kinds so, whose theorems (kind_number) and C interface hold it.
 // The term of a kind: 0 area, 1 ratio, 2 wire.
 fn term_of(kind: u8, weight: f64) -> Term
     ensures { result ≡ term_of kind weight }
@@ -33,7 +33,7 @@ fn pair_count(kinds: &[u8], weights: &[f64]) -> usize
     kinds.len().min(weights.len()).min(MOST_TERMS)
 }
 
-// stays: one index into three rows; through iter_mut and zip a proof knows no element afterwards, which TermsFrom speaks of.
+// stays: (c) one index into three rows; through iter_mut and zip a proof knows no element afterwards, which TermsFrom speaks of.
 // The terms, in their places.
 pub fn terms_in(kinds: &[u8], weights: &[f64]) -> [Term; MOST_TERMS]
     ensures { TermsFrom kinds.now weights.now result }

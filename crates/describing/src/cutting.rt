@@ -20,6 +20,7 @@ fn say_cut(pen: &mut Pen, module: Module, block: Block) -> fmt::Result {
 
 // Says each region but a module's that has rows of the block.
 fn say_shares(pen: &mut Pen, plan: Floorplan, module: Module, block: Block) -> fmt::Result {
+    // stays: (d) the range names modules, and indexes no slice.
     for other in 0..plan.modules() {
         let r = plan.region(other);
         if other != module.number && r.meets(block.place) {

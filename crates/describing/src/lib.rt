@@ -40,6 +40,7 @@ fn say_contents(pen: &mut Pen, plan: Floorplan, module: Module) -> fmt::Result {
 
 // Says all of every region.
 pub fn say_regions(pen: &mut Pen, plan: Floorplan) -> fmt::Result {
+    // stays: (d) k names a module, whose region and need are asked of the plan.
     for k in 0..plan.modules() {
         let module = plan.module(k);
         say_name(pen, module)?;

@@ -117,6 +117,7 @@ fn region_in(line: &[u8], k: usize) -> Option<Region> {
 pub fn rows_in(text: &[u8], modules: usize) -> Option<[u8; ROWS_SIZE]> {
     let mut rows = [0u8; ROWS_SIZE];
     let mut rest = text;
+    // stays: (d) k names a module, whose line has to say it, and whose row is stored.
     for k in 0..modules.min(MOST_MODULES) {
         let (line, after) = line_of(rest)?;
         row_out(&mut rows, k, region_in(line, k)?.rectangle);

@@ -45,7 +45,8 @@ fn refused(who: &'static str, e: Refusal) -> Undrawn {
 
 // What can be drawn, if the checker passes the rows.
 fn judged(design: Design, rows: [u8; ROWS_SIZE], size: Shape) -> Result<Stored, Undrawn> {
-    if let Err(e) = check(design, &rows) {
+    let reply = check(design, &rows);
+    if let Err(e) = reply {
         return Err(refused("the checker", e));
     }
     if size.w.0 > MOST_COLUMNS || size.h.0 > MOST_ROWS {

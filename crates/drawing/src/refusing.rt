@@ -5,6 +5,7 @@ use std::fmt;
 use std::fmt::Write;
 
 // A reply's number, and the place that stands beside it.
+// stays: (a) a number for a refusal, here and below: the plan program's text has it (docs/FORMAT.md), and may have any.
 #[derive(Clone, Copy)]
 pub struct Replied {
     pub number: usize,
@@ -29,7 +30,6 @@ impl From<Refusal> for Replied {
 }
 
 // What a reply with this number says.
-// stays: numbers for refusals, here and below: the plan program's text has them (docs/FORMAT.md), and may have any number
 fn cause_of(number: usize) -> &'static str {
     match number {
         1 => "the bytes end inside or before a number",

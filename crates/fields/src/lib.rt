@@ -33,6 +33,7 @@ pub struct Place {
     pub at: usize,
 }
 
+// stays: (a) the definitions of specs/Order speak of bytes and a place in them, here and below.
 // The position after the number at `at`, or `at` if no number stands there.
 #[tactic(auto, unfolding(crate::specs::Order::after_number), using(numbers::proofs::Answers::was_taken, numbers::proofs::Answers::was_refused))]
 fn after_number(s: &[u8], at: usize) -> usize
@@ -61,7 +62,7 @@ fn place_of(s: &[u8], n: usize) -> usize
     ensures { result ≡ place_of s.now n }
 {
     let mut at = 0;
-    // stays: a chain of successors is no plainer; numbers are counted here and in number_from, and no slice is indexed
+    // stays: (d) a chain of successors is no plainer; numbers are counted here and in number_from, and no slice is indexed
     for _ in 0..n {
         at = after_number(s, at);
     }
@@ -155,6 +156,7 @@ pub fn field_of(w: usize, m: usize, n: usize) -> Field
 
 // W and m as the bytes say them, 0 where they do not.
 #[derive(Clone, Copy)]
+// stays: (a) `field_of`, which theorems speak of, takes numbers, and there no column and no module stand: so 0 for none.
 pub struct Sizes {
     pub width: usize,
     pub modules: usize,

@@ -3,7 +3,7 @@ ghost use Rattle.std.specs.Prelude.{◌≡◌, ◌≤◌, length, OnErr};
 
 use words::{Why, lend, poke};
 
-// stays: no heap, so what is lent is the front of bytes that the program holds, and its length stands beside them.
+// stays: (a) no heap, so what is lent is the front of bytes that the program holds, and its length stands beside them.
 // Of all the bytes that there are, the first ones, which are lent.
 #[derive(Drop)]
 pub struct Lent<'a> {

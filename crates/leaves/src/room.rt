@@ -55,6 +55,7 @@ impl Room {
 
     // The room with one column more.
     #[tactic(auto, unfolding(crate::specs::Room::wider))]
+    // stays: (a) kinds are numbers in a chip, where the value test speaks of 3 and more.
     pub fn wider(self, kind: u8) -> Self
         requires { (kind ≤ last_kind) × Widens self }
         ensures { result ≡ wider self kind }

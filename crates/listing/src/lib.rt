@@ -17,7 +17,7 @@ use slots::board_of;
 use tokens::token_of;
 
 // How a cut is listed: by the scan over its children's own lists, or by all pairs of the shapes stored there.
-// stays: MayScanAll, which docs/PROMISES.md names, is over it; a closure's clauses would be over all bytes.
+// stays: (a) MayScanAll, which docs/PROMISES.md names, is over it; a closure's clauses would be over all bytes.
 #[derive(Clone, Copy)]
 enum By {
     Scan,
@@ -62,7 +62,7 @@ fn list_node(work: &mut [u8], design: Design, lefts: [u8; MOST_TOKENS], t: usize
 }
 
 // Lists the marked nodes, child before parent.
-// stays: tried over a slice of the marks; of an array by value the proof lacks the length (length marks ≡ most_tokens).
+// stays: (c) tried over a slice of the marks; of an array by value the proof lacks the length (length marks ≡ most_tokens).
 fn list_marked(
     work: &mut [u8],
     design: Design,

@@ -19,6 +19,7 @@ pub struct Taken<T> {
 // The answer to taking a number: its value and the position after it, or the refusal, kind and position together.
 pub type NumberReply = Result<Taken<usize>, Refusal>;
 
+// stays: (a) refusals carry positions among the caller's bytes (01), so bytes and a position are taken, here and below.
 // The third and last byte of the number that starts at `start`, above the value of the first two.
 #[tactic(auto, unfolding(rules::specs::Bytes::third_byte))]
 fn third_byte(s: &[u8], start: usize, low: usize) -> NumberReply

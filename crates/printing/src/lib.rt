@@ -16,6 +16,7 @@ pub const TEXT_SIZE: usize = 2048;
 // How many digits a number has at most.
 const DIGITS: usize = 5;
 
+// stays: (a) Put, here and below, says which lent bytes stay behind what is put; a text of its own would not.
 // Puts one byte.
 fn put_byte(out: &mut [u8], at: usize, b: u8) -> usize
     requires { at < length out.old }
@@ -86,6 +87,7 @@ fn put_modules(out: &mut [u8], at: usize, modules: usize, rows: &[u8]) -> usize
     ensures { Put out.old at (module_lines modules rows.now) result out.new }
 {
     let mut next = at;
+    // stays: (d) k names a module, whose row is read and whose number is put.
     for k in 0..modules {
         next = put_module(out, next, k, rows);
     }

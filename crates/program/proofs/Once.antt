@@ -40,7 +40,7 @@ runs_once bytes work rows out {rows' = rows'} {rows'' = rows''} x y =
     )
 
 -- of the whole program: one text
-pub plans_input_once : (most : ℕ) (read out : List ℕ) {count count' : ℕ} {out' out'' : List ℕ}
-    → PlansInput most read (lending out out') count → PlansInput most read (lending out out'') count'
+pub plans_input_once : (input : List ℕ) (read : ℕ) (out : List ℕ) {count count' : ℕ} {out' out'' : List ℕ}
+    → PlansInput input read (lending out out') count → PlansInput input read (lending out out'') count'
     → (count ≡ count') × (out' ≡ out'')
-plans_input_once most read out x y = let (c, _, _, o) = runs_once _ _ _ out x.runs y.runs in (c, o)
+plans_input_once input read out x y = let (c, _, _, o) = runs_once _ _ _ out x.runs y.runs in (c, o)

@@ -1,5 +1,5 @@
 -- 01, "The plan program": the answer to the bytes of a design, and its text.
-use Rattle.std.specs.Prelude.{◌≡◌, List, ℕ, ◌*◌, Ok, Err}
+use Rattle.std.specs.Prelude.{◌≡◌, List, ℕ, ◌*◌, length, take, Ok, Err}
 use Rattle.rules.specs.declared.Refusal.{Refusal}
 use Rattle.rules.specs.declared.Handed.{Handed}
 use Rattle.rules.specs.Answers.{Planned}
@@ -22,10 +22,9 @@ pub record Runs (bytes : List ℕ) (work rows out : Lent) (count : ℕ) : Type 0
   pub answers : Answers handed work rows planned
   pub prints : Put out.came 0 (plan_text planned handed.design.modules rows.left) count out.left
 
--- The program reads at most so many bytes as it has to, and `read` are those that it read: the text for these is put, over work and
--- rows that are zeros.
-pub record PlansInput (most : ℕ) (read : List ℕ) (out : Lent) (count : ℕ) : Type 0 where
-  pub size : most ≡ program_input
+-- The program's input has its size, and `read` bytes of it were read: the text for these is put, over work and rows that are zeros.
+pub record PlansInput (input : List ℕ) (read : ℕ) (out : Lent) (count : ℕ) : Type 0 where
+  pub size : length input ≡ program_input
   pub work : List ℕ
   pub rows : List ℕ
-  pub runs : Runs read (lending (zeroed program_work) work) (lending (zeroed (4 * most_modules)) rows) out count
+  pub runs : Runs (take read input) (lending (zeroed program_work) work) (lending (zeroed (4 * most_modules)) rows) out count

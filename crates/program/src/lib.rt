@@ -7,7 +7,6 @@ ghost use Rattle.rules.specs.Program.{program_input};
 ghost use Rattle.lending.specs.Lent.{given, lent};
 ghost use Rattle.printing.specs.Text.{text_size};
 ghost use Rattle.program.specs.Run.{Answers, Runs, PlansInput};
-ghost use Rattle.program.specs.declared.TheConstants.{MOST_INPUT};
 
 use cellweaver::{plan, read};
 use printing::{TEXT_SIZE, plan_text};
@@ -38,13 +37,14 @@ pub fn plan_bytes(bytes: &[u8], work: &mut [u8], rows: &mut [u8], out: &mut [u8]
     plan_text(planned, design.modules, rows, out)
 }
 
-// Plans the design in the bytes that were read, over zeroed work, puts the text and gives its length.
-#[tactic(auto, unfolding(rules::specs::Program::zeroed))]
-pub fn plan_input(read: &[u8], out: &mut [u8; TEXT_SIZE]) -> usize
-    requires { length read.now ≤ program_input }
-    ensures { PlansInput MOST_INPUT (given read) (lent out) result }
+// Plans the design in the first `count` bytes of the input, over zeroed work, puts the text and gives its length.
+// stays: (a) PlansInput, which docs/PROMISES.md names, pins by this type how many bytes the program reads at most.
+pub fn plan_input(input: &[u8; MOST_INPUT], count: usize, out: &mut [u8; TEXT_SIZE]) -> usize
+    requires { count ≤ program_input }
+    ensures { PlansInput (given input) count (lent out) result }
 {
     let mut work = [0u8; WORK];
     let mut rows = [0u8; 4 * MOST_MODULES];
-    plan_bytes(read, &mut work, &mut rows, out)
+    let bytes: &[u8] = input;
+    plan_bytes(&bytes[..count], &mut work, &mut rows, out)
 }

@@ -24,7 +24,7 @@ const NO_NEED: Need = Need {
 };
 
 // The form number, which has to be 1.
-// stays: 01 binds each number read, here and below, to be taken apart by let .. else, so no `?` stands there
+// stays: (a) docs/DECISIONS.md (Language forms): each number is taken apart by let .. else; a refusal carries its position.
 #[tactic(auto, using(crate::proofs::Answers::replies), unfolding(rules::specs::Bytes::checked_at))]
 fn form(s: &[u8]) -> NumberReply
     ensures { result ≡ reply_of (checked_at (λ v. eqb v 1) WrongForm s.now 0) }

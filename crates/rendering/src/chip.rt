@@ -30,6 +30,7 @@ fn draw_clbs(pen: &mut Pen, column: Column) -> fmt::Result {
 
 // A column of blocks, in the colour of their kind.
 fn draw_blocks(pen: &mut Pen, column: Column, style: &str) -> fmt::Result {
+    // stays: (d) the ranges, here and below, name blocks and columns, and index no slice.
     for j in 0..column.many() {
         draw_area(pen, area_of(column.grid, column.block(j).place), style)?;
     }

@@ -72,6 +72,7 @@ fn draw_column_numbers(pen: &mut Pen, grid: Grid) -> fmt::Result {
 
 // The numbers of the rows, at the left.
 fn draw_row_numbers(pen: &mut Pen, grid: Grid) -> fmt::Result {
+    // stays: (d) y names a row, and indexes no slice.
     for y in 0..grid.height() {
         draw_words(pen, LEFT - 10, rows_top(grid, y) - 10, &y)?;
     }

@@ -104,6 +104,7 @@ fn draw_name(pen: &mut Pen, grid: Grid, module: Module) -> fmt::Result {
 
 // Outlines the regions.
 fn draw_outlines(pen: &mut Pen, plan: Floorplan) -> fmt::Result {
+    // stays: (d) k names a module, here and below; the three differ in a call, and a closure for it would be longer.
     for k in 0..plan.modules() {
         draw_outline(pen, plan.grid(), plan.region(k))?;
     }

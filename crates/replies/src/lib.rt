@@ -8,6 +8,7 @@ use rules::Refusal;
 
 // A refusal's number, and beside it the position, module or token's position that it holds, or 0.
 #[derive(Clone, Copy)]
+// stays: (a) the numbers of 01's table, which C and the programs' texts have; number_of's clause and its edits speak of both.
 pub struct Numbered(pub usize, pub usize);
 
 // The number of a refusal, and what is said beside it.

@@ -57,6 +57,7 @@ pub struct Need {
     pub multipliers: usize,
 }
 
+// stays: (a) no heap: counts stand beside fixed arrays, here and below; the value test speaks of kinds and counts over theirs.
 // A chip: its columns and rows, how high its blocks are, and each column's kind. Places beyond width are ignored.
 #[derive(Clone, Copy)]
 pub struct Chip {
@@ -144,7 +145,7 @@ pub enum Refusal {
 }
 
 // What read and edit hand back: the answer, and the design beside it, which a refusal has too: all zeros, or unchanged.
-// stays: Reads and Edits say what design a refusal hands back, so it is no Result of a design
+// stays: (a) Reads and Edits say what design a refusal hands back, so it is no Result of a design.
 #[derive(Clone, Copy)]
 pub struct Handed {
     pub reply: Result<(), Refusal>,

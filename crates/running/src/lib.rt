@@ -13,7 +13,9 @@ pub fn run_plan(rt: &(impl Input + Print + Eprint)) {
     let Ok(read) = take_or_say(rt, &mut input) else {
         return;
     };
+    // stays: (a) PlansInput, which docs/PROMISES.md names, says how much was read, and the text's length, beside the bytes.
     let mut text = [0u8; TEXT_SIZE];
-    let length = plan_input(read, &mut text);
+    let count = read.len();
+    let length = plan_input(&input, count, &mut text);
     let _ = write_or_say(rt, &text[..length]);
 }

@@ -166,6 +166,7 @@ fn bad_token(field: Field, value: usize, m: usize) -> Wrong {
 
 // What is wrong with the number that was refused.
 fn wrong_with(s: &[u8], field: Field, e: Refusal) -> Wrong {
+    // stays: (d) a refusal of a value has its number there; where none stands, no arm says the value.
     let value = value_at(s, number_of(e).1).unwrap_or(0);
     match e {
         Refusal::Unfinished(p) => unfinished(s, p),

@@ -43,6 +43,7 @@ fn modules_extent(rows: &[u8], modules: usize) -> Extent
     ensures { (result ≡ modules_to (modules - 1) (from_rows rows.now)) × Near result }
 {
     let mut extent = module_extent(rows, 0);
+    // stays: (d) the ranges, here and below, name modules, whose rows are read.
     for k in 1..modules {
         extent = together(extent, module_extent(rows, k));
     }

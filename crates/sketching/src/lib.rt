@@ -61,6 +61,7 @@ impl<'a> Display for Row<'a> {
         let grid = self.plan.grid();
         let wide = digits_of(grid);
         write!(f, "{:wide$} ", self.y)?;
+        // stays: (d) the ranges, here and below, name columns and rows, and index no slice.
         for x in 0..grid.width() {
             let sign = sign_at(self.plan, cell(x, self.y));
             write!(f, " {sign}")?;

@@ -48,6 +48,7 @@ pub fn slot_part(work: &[u8], board: Board, t: usize, at: Corner, n: usize) -> &
 }
 
 // Clears the bytes of a slot.
+// stays: (a) scans lends all work bytes here, and the clause says that those outside the slot stay.
 pub fn clear(work: &mut [u8], start: usize, width: Columns)
     requires { (start + width.0 ≤ length work.old) × (start + width.0 ≤ most_work) }
     ensures { Filled work.old start width.0 none work.new }

@@ -12,7 +12,7 @@ const TERM_PLACES: usize = MOST_TERMS + 1;
 // A net takes a byte for the number of its members, and one for each.
 const NET_PLACES: usize = (MOST_NETS + 1) * (MOST_MODULES + 2);
 
-// stays: no heap, so there are fixed places with the number that is put beside them; kinds are numbers as score_slices has them.
+// stays: (a) no heap: fixed places, their number beside them; score_slices, which C calls, takes kinds and weights as two slices.
 // Terms and nets in their places: how many terms and how many bytes of nets are put, and where the last net stands.
 #[derive(Clone, Copy)]
 pub struct Places {

@@ -71,7 +71,7 @@ fn is_stair(slot: &[u8], board: Board, at: Corner) -> bool
 }
 
 // The slots of node t in row y are stairs.
-// stays: (d) the ranges, here and below, name columns, rows and nodes, whose bounds an `all` would have to say again in its closure.
+// stays: (d) the ranges, here and below, name columns, rows and nodes; an `all` would say their bounds again in its closure.
 fn row_stairs(work: &[u8], board: Board, t: usize, y: Rows) -> bool
     requires { Lent board (suc t) work.now × (y.0 < board.listed.0) }
     ensures { result ≡ row_stairs board (slots_on board work.now t) y.0 }

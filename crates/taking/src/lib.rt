@@ -16,7 +16,7 @@ pub struct Unread<'a> {
 
 // Reads some bytes to the front of the buffer, and gives their number: none at the end of the input. A read that a signal broke off
 // is tried again.
-// stays: a proved loop has to end and `forever` needs a Wait, so the turns are counted, to a number that no run reaches.
+// stays: (a) a proved loop has to end and `forever` needs a Wait, so the turns are counted, to a number that no run reaches.
 pub fn take_some<R: Read>(reader: &mut R, buffer: &mut [u8]) -> io::Result<usize>
     ensures { IfOk result (λ n. n ≤ length buffer.new) }
 {
@@ -30,7 +30,7 @@ pub fn take_some<R: Read>(reader: &mut R, buffer: &mut [u8]) -> io::Result<usize
 }
 
 // Reads until the buffer is full or the input ends, and lends what came.
-// stays: `read_exact` doesn't say how much came, `read_to_end` needs a heap, `io::copy` 8 KiB of stack to copy through.
+// stays: (a) `read_exact` doesn't say how much came, `read_to_end` needs a heap, `io::copy` 8 KiB of stack to copy through.
 pub fn take_all<'a, R: Read>(reader: &mut R, buffer: &'a mut [u8]) -> Result<&'a [u8], Unread<'a>>
     ensures ok { IfOk result (λ read. length read.now ≤ length buffer.old) }
     ensures err { IfErr result (λ unread. length unread.front.now ≤ length buffer.old) }

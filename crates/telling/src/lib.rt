@@ -13,6 +13,7 @@ use std::fmt::Write;
 use std::marker::Model;
 
 // Text in lent bytes: those in front are put, the others are not yet.
+// stays: (a) no heap, so its length stands beside them.
 #[derive(Drop)]
 pub struct Text<'a> {
     bytes: &'a mut [u8],

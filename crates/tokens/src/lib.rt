@@ -12,7 +12,7 @@ use rules::{Direction, MOST_MODULES, Token};
 const LAST_MODULE: usize = MOST_MODULES + 1;
 
 // What a number says as a token: a cut, a module, or a value beyond the largest module's.
-// stays: (a) 01 wants this match with ranges; a From or a Not for rules' types, here and below, could stand in rules alone.
+// stays: (a) 01 wants this match with ranges; a From or Not, here and below, belongs in rules, which has no function (ARCHITECTURE).
 pub fn token_of_number(v: usize) -> Token
     ensures { result ≡ token_of most_modules v }
 {

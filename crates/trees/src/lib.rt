@@ -13,7 +13,7 @@ use rules::{Design, MOST_TOKENS, Token};
 use tokens::{is_cut, is_module, token_of};
 
 // Where the last thing but one stands before each token: for a cut, its left child.
-// stays: (a) no heap: the tree is 01's positions in arrays, here and below, and t is a position at whose earlier places two arrays are read.
+// stays: (a) no heap: the tree is 01's positions in arrays, here and below; two are read at places before t.
 #[tactic(auto, using(rules::proofs::Limits::limits))]
 pub fn left_children(design: Design) -> [u8; MOST_TOKENS]
     requires { LawfulDesign design }

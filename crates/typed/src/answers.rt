@@ -5,11 +5,13 @@ use std::fmt;
 use std::fmt::Write;
 use telling::Text;
 
+// stays: (a) the programs' output begins with a byte that the scripts and examples read, as it did.
 const DONE: u8 = b'd';
 
 const REFUSED: u8 = b'r';
 
 // The line of a place in a text, counted from 1.
+// stays: (a) a mistake tells its place among the text's bytes; what is behind it is not needed.
 fn line_of(text: &[u8], at: usize) -> usize {
     text.iter().take(at).filter(|b| **b == b'\n').count() + 1
 }

@@ -12,6 +12,7 @@ pub enum Digit {
 }
 
 // What a byte of text is, in a comment or outside of one. A comment goes from `#` up to the line's end.
+// stays: (d) a yes or no with no value beside it.
 fn digit_in(b: u8, in_comment: bool) -> Digit {
     match b {
         b'\n' => Digit::Space,

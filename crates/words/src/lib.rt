@@ -25,6 +25,7 @@ fn from_word(line: &[u8], k: usize) -> &[u8]
     ensures { length result.now ≤ length line.now }
 {
     let mut rest = line;
+    // stays: (d) words are counted, and no slice is indexed.
     for _ in 0..k {
         let Some(space) = rest.iter().position(|b| *b == b' ') else {
             return &rest[rest.len()..];

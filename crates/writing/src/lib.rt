@@ -42,6 +42,7 @@ pub fn design_size() -> usize
 }
 
 // What is written as numbers, one behind the other: its bytes, and which values have their bytes.
+// stays: (a) Put says which lent bytes stay behind what is put, so bytes and a position are taken, here and below.
 trait Written {
     ghost bytes: { Self → List ℕ };
 
