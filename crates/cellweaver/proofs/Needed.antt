@@ -13,7 +13,6 @@ use Rattle.rules.proofs.Searching.{absurd_so}
 use Rattle.rules.proofs.Limits.{limits, no_other_row}
 use Rattle.rules.proofs.Stairs.{stairs_iff}
 use Rattle.rules.proofs.Changing.{edit_work, edit_lawful}
-use Rattle.rules.proofs.Testing.{failed, passed}
 use Rattle.rules.proofs.Working.{work_rises}
 use Rattle.slots.specs.declared.Board.{Board}
 use Rattle.slots.specs.Size.{board_of}
@@ -35,14 +34,14 @@ few d lawful e =
     rw e (record { rows = omega arith; corners = omega arith; bytes = b })
 
 -- what the stair test says, in the rules' words
-pub no_stairs : (d : Design) (work : List ℕ) {r : Bool} → r ≡ stairs_on (board_of d) (nodes d) (slots_of d work) → not r ≡ true
+pub no_stairs : (d : Design) (work : List ℕ) {r : Bool} → r ≡ stairs_on (board_of d) (nodes d) (slots_of d work) → r ≡ false
     → AllStairs d (slots_of d work) → ⊥
 no_stairs d work e n s =
-    absurd_so (sym (failed e n) ∙ (stairs_iff (width_of d) (height_of d) (slot_rows d) (nodes d) (slots_of d work)).1 s)
+    absurd_so (sym (sym e ∙ n) ∙ (stairs_iff (width_of d) (height_of d) (slot_rows d) (nodes d) (slots_of d work)).1 s)
 
-pub stairs : (d : Design) (work : List ℕ) {r : Bool} → r ≡ stairs_on (board_of d) (nodes d) (slots_of d work) → not r ≡ false
+pub stairs : (d : Design) (work : List ℕ) {r : Bool} → r ≡ stairs_on (board_of d) (nodes d) (slots_of d work) → r ≡ true
     → AllStairs d (slots_of d work)
-stairs d work e n = (stairs_iff (width_of d) (height_of d) (slot_rows d) (nodes d) (slots_of d work)).0 (passed e n)
+stairs d work e n = (stairs_iff (width_of d) (height_of d) (slot_rows d) (nodes d) (slots_of d work)).0 (sym e ∙ n)
 
 -- the design with an edit's change is lawful, and takes as many bytes
 pub edited_lawful : (d : Design) (e : Edit) {next : Design} → LawfulDesign d → So (names_place d e) → next ≡ changed d e → LawfulDesign next

@@ -24,11 +24,14 @@ pub fn score_slices(
 ) -> Result<Score, Refusal>
     ensures { Scores design (given rows) (cost_in (given kinds) (given weights) (given nets)) result }
 {
+    let terms = terms_in(kinds, weights);
+    let count = term_count(kinds, weights);
     let taken = nets_in(nets);
+    let places = taken.nets;
     let cost = Cost {
-        terms: terms_in(kinds, weights),
-        term_count: term_count(kinds, weights),
-        nets: taken.nets,
+        terms,
+        term_count: count,
+        nets: places,
         net_count: taken.count,
     };
     score(design, rows, cost)

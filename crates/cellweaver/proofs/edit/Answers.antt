@@ -49,7 +49,7 @@ are_stairs-requires c = (is_lawful (goal.at.are_stairs-requires c).In_default, o
 
 pub returns-then-not-are_stairs : goal.returns-then-not-are_stairs
 returns-then-not-are_stairs c =
-    edit_stranger _ (has-places (goal.at.returns-then-not-are_stairs c).In_default) _ _ (is_lawful (goal.at.returns-then-not-are_stairs c).In_default) (is-named (goal.at.returns-then-not-are_stairs c).Else-not-names_place) (omega arith) c.refused-then-not-are_stairs.ensures (no_stairs (the-design (goal.at.returns-then-not-are_stairs c).Else-not-names_place) _ c.are_stairs.ensures c.if-not-are_stairs.true-raw)
+    edit_stranger _ (has-places (goal.at.returns-then-not-are_stairs c).In_default) _ _ (is_lawful (goal.at.returns-then-not-are_stairs c).In_default) (is-named (goal.at.returns-then-not-are_stairs c).Else-not-names_place) (omega arith) c.refused-then-not-are_stairs.ensures (no_stairs (the-design (goal.at.returns-then-not-are_stairs c).Else-not-names_place) _ c.are_stairs.ensures c.if-not-are_stairs.true)
 
 pub with_change-next-requires : goal.with_change-next-requires
 with_change-next-requires c = (is_lawful (goal.at.with_change-next-requires c).In_default, is-named (goal.at.with_change-next-requires c).Else-not-names_place)
@@ -63,5 +63,5 @@ list_way-requires c =
 
 pub returns : goal.returns
 returns c =
-    edit_done _ (has-places (goal.at.returns c).In_default) _ _ (is_lawful (goal.at.returns c).In_default) (is-named (goal.at.returns c).Else-not-names_place) (omega arith) c.with_change-next.ensures (stairs (the-design (goal.at.returns c).Else-not-names_place) _ c.are_stairs.ensures c.if-not-are_stairs.false-raw)
+    edit_done _ (has-places (goal.at.returns c).In_default) _ _ (is_lawful (goal.at.returns c).In_default) (is-named (goal.at.returns c).Else-not-names_place) (omega arith) c.with_change-next.ensures (stairs (the-design (goal.at.returns c).Else-not-names_place) _ c.are_stairs.ensures c.if-not-are_stairs.false)
     (way_made _ _ (rw (c.with_change-next.ensures, c.changed_node.ensures) at c.list_way.ensures))

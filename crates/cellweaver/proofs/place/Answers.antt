@@ -41,15 +41,15 @@ pub returns-then-not-are_stairs : goal.returns-then-not-are_stairs
 returns-then-not-are_stairs c =
     let at = goal.at.returns-then-not-are_stairs c in
     place_stranger _ (has_places at.In_ok-value_test) _ _ (has_enough at.Else-not-enough_lent (is_lawful at.In_ok-value_test))
-    (no_stairs c.args.design _ c.are_stairs.ensures c.if-not-are_stairs.true-raw)
+    (no_stairs c.args.design _ c.are_stairs.ensures c.if-not-are_stairs.true)
 
 pub place_lists-requires : goal.place_lists-requires
 place_lists-requires c =
     let at = goal.at.place_lists-requires c in
-    (has_enough at.Else-not-enough_lent (is_lawful at.In_ok-value_test), stairs c.args.design _ c.are_stairs.ensures c.if-not-are_stairs.false-raw)
+    (has_enough at.Else-not-enough_lent (is_lawful at.In_ok-value_test), stairs c.args.design _ c.are_stairs.ensures c.if-not-are_stairs.false)
 
 pub returns : goal.returns
 returns c =
     let at = goal.at.returns c in
     place_done _ (has_places at.In_ok-value_test) _ _ (has_enough at.Else-not-enough_lent (is_lawful at.In_ok-value_test))
-    (stairs c.args.design _ c.are_stairs.ensures c.if-not-are_stairs.false-raw) c.place_lists.ensures
+    (stairs c.args.design _ c.are_stairs.ensures c.if-not-are_stairs.false) c.place_lists.ensures

@@ -5,7 +5,6 @@ use mathlib.Core.Path.{◌≡◌, sym, ◌∙◌}
 use mathlib.Core.Bool.{Bool, true, false}
 use Prim.Native.Nat.{ℕ}
 use native.Mathlib.Omega.{arith}
-use borrow.Author.Tests.{not-true, not-false}
 use Rattle.rules.specs.declared.Refusal.TheVariants.{OffTheChip}
 use Rattle.rules.specs.declared.Rectangle.{Rectangle}
 use Rattle.rules.specs.declared.Design.{Design}
@@ -32,21 +31,21 @@ pub rectangle_at-r-requires : goal.rectangle_at-r-requires
 rectangle_at-r-requires c = omega (arith, limits _ c.requires.0)
 
 pub returns-then-not-is_on_chip : goal.returns-then-not-is_on_chip
-returns-then-not-is_on_chip c = off _ _ _ c.rectangle_at-r.ensures.0 c.is_on_chip.ensures (not-true _ c.if-not-is_on_chip.true-raw)
+returns-then-not-is_on_chip c = off _ _ _ c.rectangle_at-r.ensures.0 c.is_on_chip.ensures c.if-not-is_on_chip.true
 
 pub suits-requires : goal.suits-requires
 suits-requires c =
     let p = c.requires in
-    let on = sym c.is_on_chip.ensures ∙ not-false _ c.if-not-is_on_chip.false-raw in (p.0, p.1, (on_chip_iff _ _ _).0 on)
+    let on = sym c.is_on_chip.ensures ∙ c.if-not-is_on_chip.false in (p.0, p.1, (on_chip_iff _ _ _).0 on)
 
 pub returns-then-not-suits : goal.returns-then-not-suits
 returns-then-not-suits c =
-    let on = c in let o = not-false _ on.if-not-is_on_chip.false-raw in let q = on.is_on_chip.ensures in
+    let on = c in let o = on.if-not-is_on_chip.false in let q = on.is_on_chip.ensures in
     let e = on.rectangle_at-r.ensures.0 in
-    ruled _ _ _ e q o c.suits.ensures (not-true _ c.if-not-suits.true-raw)
+    ruled _ _ _ e q o c.suits.ensures c.if-not-suits.true
 
 pub returns : goal.returns
 returns c =
-    let on = c in let o = not-false _ on.if-not-is_on_chip.false-raw in let q = on.is_on_chip.ensures in
+    let on = c in let o = on.if-not-is_on_chip.false in let q = on.is_on_chip.ensures in
     let e = on.rectangle_at-r.ensures.0 in
-    ruled _ _ _ e q o c.suits.ensures (not-false _ c.if-not-suits.false-raw)
+    ruled _ _ _ e q o c.suits.ensures c.if-not-suits.false

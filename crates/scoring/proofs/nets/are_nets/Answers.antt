@@ -1,9 +1,9 @@
 -- `scoring::nets::are_nets` meets its contract: the count is tested, and then each net until one fails.
 -- Assumes nothing.
-use mathlib.Core.Path.{◌≡◌}
+use mathlib.Core.Path.{◌≡◌, sym, ◌∙◌}
 use native.Mathlib.Omega.{arith}
 use borrow.Author.Rules.{rules}
-use Rattle.rules.proofs.Testing.{all_none, all_more, failed, passed}
+use Rattle.rules.proofs.Testing.{all_none, all_more}
 use Rattle.std.proofs.lemmas.List.{length-take}
 use Rattle.rules.specs.Score.{no_net}
 use Rattle.scoring.proofs.Front.{before, one_of_all}
@@ -19,13 +19,13 @@ loop-net-init c = (search rules, all_none _)
 pub returns-then-not-is_net : goal.returns-then-not-is_net
 returns-then-not-is_net c =
     let k = c.args.cost in let h = c.loop-net-test.true in
-    let e = failed c.is_net.ensures c.if-not-is_net.true-raw in
+    let e = sym c.is_net.ensures ∙ c.if-not-is_net.true in
     net_fails _ _ _ _ (before k.net_count k.nets h) (rw (one_of_all k.net_count k.nets h no_net) at e)
 
 pub loop-net-preserved : goal.loop-net-preserved
 loop-net-preserved c =
     let k = c.args.cost in let h = c.loop-net-test.true in
-    let e = passed c.is_net.ensures c.if-not-is_net.false-raw in
+    let e = sym c.is_net.ensures ∙ c.if-not-is_net.false in
     (search rules, all_more _ _ c.loop-net.invariant.1 (rw (one_of_all k.net_count k.nets h no_net) at e))
 
 pub returns : goal.returns

@@ -1,10 +1,10 @@
 -- `scoring::terms::are_terms` meets its contract: the count is tested, and then each weight until one fails.
 -- Assumes nothing.
-use mathlib.Core.Path.{◌≡◌, ◌∙◌, ap}
+use mathlib.Core.Path.{◌≡◌, ◌∙◌, ap, sym}
 use native.Mathlib.Omega.{arith}
 use borrow.Author.Rules.{rules}
 use Rattle.rules.specs.Score.{lawful_weight, weight_of, term_at}
-use Rattle.rules.proofs.Testing.{all_none, all_more, failed, passed}
+use Rattle.rules.proofs.Testing.{all_none, all_more}
 use Rattle.std.proofs.lemmas.List.{length-take}
 use Rattle.std.specs.Float.{nan}
 use Rattle.rules.specs.declared.Term.TheVariants.{Area}
@@ -28,11 +28,11 @@ tested c =
 pub returns-then-not-is_weight : goal.returns-then-not-is_weight
 returns-then-not-is_weight c =
     let k = c.args.cost in let h = c.loop-term-test.true in
-    term_fails _ _ _ (before k.term_count k.terms h) (failed (tested (goal.at.returns-then-not-is_weight c).After-is_weight) c.if-not-is_weight.true-raw)
+    term_fails _ _ _ (before k.term_count k.terms h) (sym (tested (goal.at.returns-then-not-is_weight c).After-is_weight) ∙ c.if-not-is_weight.true)
 
 pub loop-term-preserved : goal.loop-term-preserved
 loop-term-preserved c =
-    (search rules, all_more _ _ c.loop-term.invariant.1 (passed (tested (goal.at.loop-term-preserved c).After-is_weight) c.if-not-is_weight.false-raw))
+    (search rules, all_more _ _ c.loop-term.invariant.1 (sym (tested (goal.at.loop-term-preserved c).After-is_weight) ∙ c.if-not-is_weight.false))
 
 pub returns : goal.returns
 returns c =
