@@ -7,11 +7,11 @@ use Prim.Native.Nat.{ℕ, ◌+◌, ◌-◌, ◌≤◌, ◌<◌}
 use native.Mathlib.Omega.{arith}
 use native.Mathlib.Nat.{le_refl}
 use native.Mathlib.Decide.{dec_lt, ℕ_discrete}
-use lib.ListN.{length, get_or, set, length-set, take}
+use lib.ListN.{length, get_or, set, length-set, take, drop}
 use lib.Seq.{get_or-set_same, get_or-set_other}
 use borrow.Author.Tests.{ne_eqb}
 use Rattle.std.specs.Prelude.{Option, Some, IfSome}
-use Rattle.std.proofs.lemmas.List.{get_or-take, length-take-le}
+use Rattle.std.proofs.lemmas.List.{get_or-take, get_or-drop, length-take-le, length-drop}
 use Rattle.scans.specs.Run.{UpToLast, stop_at, FirstAfter, FoundKept, PlaceOf, Put, Walks, WalkedOn, bytes, or_end}
 
 pub one_more : {P : ℕ → Type 0} {n : ℕ} (k : ℕ) → 1 ≤ k → ((i : ℕ) → k ≤ i → i < n → P i) → P (k - 1) → (i : ℕ) → k - 1 ≤ i → i < n → P i
@@ -191,3 +191,16 @@ module _ (slot : List ℕ) {m : ℕ} (h : m ≤ length slot) where
 
   pub within_taken : (o : Option ℕ) → IfSome o (λ k. k < length (take m slot)) → IfSome o (λ k. k < m)
   within_taken o w = rw long at w
+
+-- and those of its last bytes
+pub first_dropped : (slot : List ℕ) {a r : ℕ} → a ≤ length slot → FirstAfter (bytes (drop a slot)) 0 (length (drop a slot)) r
+    → FirstAfter (bytes slot) a (length slot) (a + r)
+first_dropped slot {a} {r} h z = let e = length-drop a slot in record {
+  from = omega arith;
+  within = omega (arith, z.within, e);
+  holds = λ p. rw (get_or-drop a slot r 0) at (z.holds (omega (arith, e)));
+  none = λ k p q. rw (get_or-drop a slot (k - a) 0, left k p) at (z.none (k - a) (omega arith) (omega arith));
+}
+  where
+    left : (k : ℕ) → a ≤ k → a + (k - a) ≡ k
+    left k p = omega arith

@@ -27,26 +27,22 @@ const NO_STOP: u8 = 255;
 fn up_to_last(slot: &[u8]) -> usize
     ensures { UpToLast (bytes slot.now) (length slot.now) result }
 {
-    for k in (0..slot.len()).rev() {
-        if slot[k] != 0 {
-            return k + 1;
-        }
-    }
-    0
+    slot.iter().rposition(|&h| h != 0).map_or(0, |k| k + 1)
 }
 
-// The first byte of a slot that holds a shape, the first a left out; the end where none does.
+// The first byte of a slot that holds a shape; the end where none does.
+fn first(slot: &[u8]) -> usize
+    ensures { FirstAfter (bytes slot.now) 0 (length slot.now) result }
+{
+    slot.iter().position(|&h| h != 0).unwrap_or(slot.len())
+}
+
+// The same, the first a bytes left out.
 fn first_after(slot: &[u8], a: usize) -> usize
     requires { a ≤ length slot.now }
     ensures { FirstAfter (bytes slot.now) a (length slot.now) result }
 {
-    let n = slot.len();
-    for k in a..n {
-        if slot[k] != 0 {
-            return k;
-        }
-    }
-    n
+    a + first(&slot[a..])
 }
 
 // What is looked up: the highest shape that is no higher than the left one; and how many bytes there are up to the
