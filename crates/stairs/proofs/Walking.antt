@@ -1,23 +1,27 @@
 -- The walk along a slot decides whether it is a stair. A zero changes nothing; a nonzero byte that stands on the chip and below the
 -- height kept takes its place, since all that follow have to fall below it; any other shows that the slot is no stair.
 -- Assumes nothing.
-use mathlib.Core.Path.{◌≡◌, refl, sym, ◌∙◌, subst}
+use mathlib.Core.Path.{◌≡◌, refl, sym, ◌∙◌, ap, subst}
 use mathlib.Core.Logic.{◌↔◌}
-use mathlib.Core.Bool.{Bool, true, false, So}
+use mathlib.Core.Bool.{Bool, true, false, ◌&&◌, So}
 use mathlib.Core.List.{List, [], ◌∷◌, ◌++◌}
 use Prim.Native.Nat.{ℕ, zero, suc, ◌+◌, ◌-◌, ◌≤◌, ◌<◌}
 use native.Mathlib.Omega.{arith}
 use native.Mathlib.Nat.{zero-add, sub-zero}
 use native.Mathlib.Decide.{dec_lt, ℕ_discrete}
+use native.Mathlib.Numerals.{add-one}
 use lib.Dec.{ltb}
-use lib.ListN.{length}
+use lib.ListN.{length, take}
+use lib.Seq.{take-length}
 use borrow.Author.Tests.{lt-ltb, le-ltb, eq-eqb, ne_eqb}
-use Rattle.std.specs.Prelude.{Some, None}
+use Rattle.std.specs.Prelude.{Some, None, eqb, fold}
+use Rattle.std.proofs.lemmas.List.Sums.{fold_more}
 use Rattle.rules.specs.declared.Corner.{Corner}
 use Rattle.rules.specs.Search.{all}
 use Rattle.rules.specs.Slot.{Stair}
 use Rattle.rules.proofs.Test.{is_stair}
 use Rattle.rules.proofs.Searching.{absurd_so, all_iff, eqb_iff, same_test}
+use Rattle.rules.proofs.Testing.{all_none, all_and}
 use Rattle.rules.proofs.Stairs.{stair_iff}
 use Rattle.stairs.specs.Walk.{byte_at, zero_at, next_low, low_after, low_left}
 
@@ -313,3 +317,16 @@ module _ {W H : ℕ} {c : Corner} {slot : List ℕ} {columns : ℕ} {rest : List
     no_stair e s =
         let q = left_none _ s in
         rw (decided W H c slot e, ← along, q, after_fault (columns - length part) (byte_at after) 0 (length after))
+
+-- bytes that are folded with `and` are tested one after the other
+module _ (bytes : List ℕ) where
+  abbrev pub and_zero : Bool → ℕ → Bool
+  and_zero so byte = so && eqb byte 0
+
+  zeros_of : (i : ℕ) → i ≤ length bytes → fold and_zero true (take i bytes) ≡ all i (zero_at bytes)
+  zeros_of zero h = sym (all_none _)
+  zeros_of (suc i) h =
+      rw (← add-one i) (fold_more and_zero true bytes i 0 (omega arith) ∙ ap (λ z. z && zero_at bytes i) (zeros_of i (omega arith)) ∙ all_and i (zero_at bytes))
+
+  pub zeros : fold and_zero true bytes ≡ all (length bytes) (zero_at bytes)
+  zeros = rw (take-length bytes) at (zeros_of (length bytes) (omega arith))

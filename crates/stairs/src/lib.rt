@@ -12,15 +12,11 @@ ghost use Rattle.stairs.specs.Walk.{byte_at, zero_at, low_left, low_after, row_s
 use rules::{Columns, Corner, Rows};
 use slots::Board;
 
-// All of these bytes are zero.
+// All of these bytes are zero. No byte ends the fold early, as one would end `all`.
 fn all_zero(bytes: &[u8]) -> bool
     ensures { result ≡ all (length bytes.now) (zero_at bytes.now) }
 {
-    let mut zero = true;
-    for byte in bytes {
-        zero = zero & (*byte == 0);
-    }
-    zero
+    bytes.iter().fold(true, |zero, &byte| zero & (byte == 0))
 }
 
 // Eight bytes, and all of them zero. Their number is written out, so that no loop is left when this is compiled.

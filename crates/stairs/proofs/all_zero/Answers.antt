@@ -1,17 +1,13 @@
--- The flag kept is the test of the bytes so far, and each turn joins one byte to it. Assumes nothing.
-use mathlib.Core.Path.{◌≡◌, refl}
-use native.Mathlib.Omega.{arith}
-use lib.ListN.{length}
-use Rattle.rules.specs.Search.{all}
-use Rattle.rules.proofs.Testing.{all_and}
+-- The fold over the bytes is their test one after the other. Assumes nothing.
+use mathlib.Core.Path.{◌∙◌}
+use mathlib.Core.Bool.{true}
+use Rattle.std.proofs.Common.{rules}
+use Rattle.std.proofs.lemmas.Iterator.{YieldsList-from_slice}
+use Rattle.std.proofs.lemmas.Iterator.Consumers.{fold_from_yields_List}
+use Rattle.stairs.proofs.Walking.{and_zero, zeros}
 use Rattle.stairs.proofs.all_zero.Goals as goal
 
-pub loop-byte-init : goal.loop-byte-init
-unfolding all
-loop-byte-init c = refl
-
-pub loop-byte-preserved : goal.loop-byte-preserved
-loop-byte-preserved c = rw c.loop-byte.invariant (all_and _ _)
-
 pub returns : goal.returns
-returns c = let e : c.loop-byte.byte-index ≡ length c.args.bytes.now = omega arith in rw e at c.loop-byte.invariant
+returns c =
+    let bytes = c.args.bytes.now in
+    fold_from_yields_List _ (and_zero bytes) true c.fold.result c.fold.ensures.ran (YieldsList-from_slice bytes cc) (λ a x b q k. search rules) ∙ zeros bytes
