@@ -26,7 +26,7 @@ struct Place(usize);
 struct Line(usize);
 
 // The most places that a line can have, in either direction.
-// stays: a constant's value calls no `max`.
+// stays: (d) a constant's value calls no function, so `max` can't stand here.
 const MOST_PLACES: usize = if MOST_COLUMNS < MOST_ROWS {
     MOST_ROWS
 } else {
@@ -123,6 +123,7 @@ impl Cut {
 }
 
 // Fills a slot at row y into a place's top sides, one for each of its bytes.
+// stays: (c) tried with zip and iter_mut; left open: SlotFilled of the bytes written, of which the loop's invariant has no value.
 fn fill_slot(slot: &[u8], y: u8, height: u8, tops: &mut [u8])
     requires { (length tops.old ≡ length slot.now) × (y ≤ height) × (height < 255) }
     ensures { SlotFilled height y slot.now tops.new }
@@ -159,6 +160,7 @@ fn fill_line(work: &[u8], cut: Cut, on: Line, line: &mut [u8; LINE_SIZE])
     ensures { WholeLine cut.direction cut.board work.now cut.right on.0 line.new }
 {
     let places = cut.places();
+    // stays: (d) the ranges, here and below, name places and lines, and index no slice.
     for p in 0..places.0 {
         let at = cut.corner_at(on, Place(p));
         fill_corner(work, cut.board, cut.right, at, line, p * FILLED_SIZE);
@@ -166,7 +168,7 @@ fn fill_line(work: &[u8], cut: Cut, on: Line, line: &mut [u8; LINE_SIZE])
 }
 
 // Lays a chunk of a filled slot, none of it lower than `top`, over the top sides.
-// stays: a constant count, here and below, is one vector step; of a zip with iter_mut a proof learns nothing.
+// stays: (c) tried with zip and iter_mut; left open: RunLaid of the bytes written, of which the loop's invariant has no value.
 fn lay_chunk(line: &[u8; LINE_SIZE], from: usize, top: u8, tops: &mut [u8; TOPS_SIZE], to: usize)
     requires { (from + chunk ≤ line_size) × (to + chunk ≤ tops_size) }
     ensures { RunLaid line.now from top tops.old to chunk tops.new }
@@ -178,6 +180,7 @@ fn lay_chunk(line: &[u8; LINE_SIZE], from: usize, top: u8, tops: &mut [u8; TOPS_
 }
 
 // Lays n bytes of a filled slot, none lower than `top`, over the top sides, chunk by chunk.
+// stays: (d) the last chunk runs past the n bytes in both arrays, where `chunks` of them would end with a part of one.
 fn lay_slot(
     line: &[u8; LINE_SIZE],
     from: usize,

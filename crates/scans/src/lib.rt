@@ -20,7 +20,7 @@ use rules::{Columns, Corner, Direction, Rows};
 use slots::{clear, slot_part, slot_start};
 
 // Higher than any shape: the first left shape has no stop.
-// stays: a bound like any other height; an Option would be tested at each shape that the walk passes.
+// stays: (d) a bound like any other height: walk_on compares with it at each shape, where an Option would be matched first.
 const NO_STOP: u8 = 255;
 
 // Of a slot's bytes, how many there are up to the last that holds a shape.
@@ -54,6 +54,7 @@ struct Looked {
 }
 
 // Looks up the highest right shape no higher than the left one, from the widest on.
+// stays: (c) tried with rposition, then position on the bytes left; left open: LookedUp's `found` of what map gives, and `within`.
 fn look_up(right: &[u8], height: u8) -> Looked
     ensures found { LookedUp (bytes right.now) (length right.now) height result }
     ensures within { IfSome result.found (λ k. k < length right.now) }
@@ -85,6 +86,7 @@ fn keep_found(slot: &mut [u8], wide: usize, found: Option<usize>, height: u8)
 }
 
 // Walks on to higher right shapes and keeps their heights, up to the stop; gives the last that is kept.
+// stays: (d) two slices, here and in walk_up, at one index, one of them written; zip with iter_mut (and rev here) is no plainer.
 fn walk_on(slot: &mut [u8], wide: usize, right: &[u8], stop: u8) -> Option<usize>
     requires { (wide + length right.now ≤ length slot.old) × (0 < stop) }
     ensures walked { WalkedOnIn right.now stop wide slot.old slot.new result }
@@ -294,6 +296,7 @@ fn scan_row(work: &mut [u8], cut: Cut, y: Rows)
     requires { Scannable cut work.old × (y.0 < cut.board.listed.0) }
     ensures { RowPaired cut y.0 work.old work.new }
 {
+    // stays: (d) the ranges, here and below, name columns and rows, and index no slice.
     for x in 0..cut.board.width.0 {
         scan_corner(work, cut, Corner { x: Columns(x), y });
     }
