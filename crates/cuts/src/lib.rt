@@ -62,7 +62,7 @@ pub struct Cut {
     pub right: usize,
 }
 
-// stays: each is a match on the direction; one function over two numbers would let rows stand for columns (01).
+// stays: (a) each is a match on the direction; one function over two numbers would let rows stand for columns (01).
 impl Cut {
     // How many places a line has.
     fn places(self) -> Place

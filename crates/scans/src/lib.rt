@@ -237,7 +237,7 @@ fn stop_at(slot: &[u8]) -> u8
     }
 }
 
-// stays: the two scans go over the left shapes in opposite ways, and hold other bounds from one to the next.
+// stays: (d) the two scans go over the left shapes in opposite ways, and hold other bounds from one to the next.
 // Scans at a corner of a vertical cut, the left shapes from the widest on, which is the lowest.
 fn scan_vertical(children: &[u8], cut: Cut, at: Corner, slot: &mut [u8])
     requires { ScanReady cut at children.now slot.old }
@@ -291,7 +291,7 @@ fn scan_corner(work: &mut [u8], cut: Cut, at: Corner)
 }
 
 // Writes the slots of a cut node at the corners of one row.
-// stays: a row of corners for both directions, where cuts goes along a cut's lines, whose right slots it fills once.
+// stays: (d) a row of corners for both directions, where cuts goes along a cut's lines, whose right slots it fills once.
 fn scan_row(work: &mut [u8], cut: Cut, y: Rows)
     requires { Scannable cut work.old × (y.0 < cut.board.listed.0) }
     ensures { RowPaired cut y.0 work.old work.new }
