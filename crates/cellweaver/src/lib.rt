@@ -20,6 +20,7 @@ use slots::board_of;
 use stairs::all_stairs;
 
 // The work bytes that a lawful design's lists take.
+// stays: (d) LawfulDesign, here and in the crates below: a type for it would be made and taken apart in each service.
 pub fn work_needed(design: Design) -> usize
     requires { LawfulDesign design }
     ensures { result ≡ work_of design }

@@ -23,6 +23,7 @@ struct Pass {
 }
 
 // Neither side is zero, and the rectangle ends on the chip.
+// stays: (d) Bytes, here, in extents and in scoring, and a row's place in rows: a type would be made at each reading.
 #[tactic(auto, unfolding(rules::specs::Check::is_on_chip))]
 fn is_on_chip(width: Columns, height: Rows, r: Rectangle) -> bool
     requires { Bytes r }
