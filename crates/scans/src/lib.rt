@@ -147,6 +147,7 @@ fn scan_beside(
 }
 
 // A height to add to.
+// stays: (d) it says that a height is below 256, here for all who add to one; a cast would say so at each place.
 fn as_number(height: u8) -> usize
     ensures { (result ≡ height) × (result < 256) }
 {
