@@ -23,7 +23,7 @@ use Rattle.rules.proofs.Rooms.{rising}
 use Rattle.rules.proofs.Suiting.{suits_growing}
 use Rattle.rules.proofs.Walking.{WalkedTo, down_same, rows_fall, walk_begins, walk_width, columns_used, rows_used, rooms_at, walk_lists}
 use Rattle.leaves.specs.declared.room.Room.{Room}
-use Rattle.leaves.specs.Leaf.{WalkReady, Listed}
+use Rattle.leaves.specs.Leaf.{WalkReady, WalkListed}
 use Rattle.leaves.specs.Room.{no_columns, wider, Widens}
 use Rattle.leaves.specs.Step.{descended, Descends, Steppable, step_to, Stepped}
 use Rattle.leaves.proofs.Carrying.{room_of, room_begins, room_wider, room_suits, room_widens}
@@ -71,7 +71,7 @@ module _ {C : Chip} (lawful : So (lawful_chip C)) {need : Need} {c : Corner} {be
   -- bytes that are the walk's are the leaf's list
   walk_listed : {slot : List ℕ} → WalkReady C c before → length slot ≡ length before
       → ((i : ℕ) → i < C.width.0 → bytes slot i ≡ walked (suits_at C need c) (C.width.0 - c.x.0) (C.height.0 - c.y.0) i)
-      → Listed C need c before slot
+      → WalkListed C need c before slot
   walk_listed ready long d =
       let p = ready.corner in let G = rising (suits_growing C need) c.x.0 c.y.0 in
       record { long = long; bytes = λ i k. d i k ∙ walk_lists G (omega arith) i }
@@ -88,7 +88,7 @@ module _ {C : Chip} (lawful : So (lawful_chip C)) {need : Need} {c : Corner} {be
     widens = rw z.carried (room_widens C lawful c j (left_at C need c j) z.within rows_on)
 
     -- until the columns are used up
-    pub walks_out : C.width.0 ≤ c.x.0 + j → Listed C need c before slot
+    pub walks_out : C.width.0 ≤ c.x.0 + j → WalkListed C need c before slot
     walks_out p = walk_listed z.ready z.long (columns_used z.walk (omega arith))
 
     -- adding a column
@@ -151,7 +151,7 @@ module _ {C : Chip} (lawful : So (lawful_chip C)) {need : Need} {c : Corner} {be
               rw add-one (record { ready = z.ready; within = omega arith; some = p; carried = q; long = long_more; walk = walk_more })
 
           -- until the rows are used up
-          pub walks_low : r ≡ None → Listed C need c before (set slot j height)
+          pub walks_low : r ≡ None → WalkListed C need c before (set slot j height)
           walks_low e =
               walk_listed z.ready long_more
               (rows_used walk_more (used_up C c (suc j) (left_at C need c (suc j)) to e))

@@ -21,7 +21,7 @@ pub record WalkReady (C : Chip) (c : Corner) (slot : List ℕ) : Type 0 where
   pub cleared : (j : ℕ) → j < C.width.0 → get_or slot j 0 ≡ 0
 
 -- what it leaves there: the leaf's list
-pub record Listed (C : Chip) (need : Need) (c : Corner) (before after : List ℕ) : Type 0 where
+pub record WalkListed (C : Chip) (need : Need) (c : Corner) (before after : List ℕ) : Type 0 where
   pub long : length after ≡ length before
   pub bytes : (j : ℕ) → j < C.width.0 → get_or after j 0 ≡ leaf_bytes C need c j
 

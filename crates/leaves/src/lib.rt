@@ -8,7 +8,7 @@ ghost use Rattle.std.proofs.Math.Bool.{So};
 ghost use Rattle.rules.specs.Design.{lawful_chip};
 ghost use Rattle.leaves.specs.Room.{full_at};
 ghost use Rattle.leaves.specs.Step.{Steppable, Stepped};
-ghost use Rattle.leaves.specs.Leaf.{leaf_bytes, WalkReady, SlotReady, LeafReady, Listed, RowListed, NodeListed};
+ghost use Rattle.leaves.specs.Leaf.{leaf_bytes, WalkReady, SlotReady, LeafReady, WalkListed, RowListed, NodeListed};
 ghost use Rattle.slots.specs.Lent.{Lent, SlotOn};
 
 use holding::is_at_most;
@@ -49,7 +49,7 @@ impl Leaf {
     // still suits, and otherwise adds a column, until columns or rows are used up.
     fn walk(&self, slot: &mut [u8], at: Corner, full: Room)
         requires { WalkReady self.now.chip at slot.old × (full ≡ full_at self.now.chip at.y.0) }
-        ensures { Listed self.now.chip self.now.need at slot.old slot.new }
+        ensures { WalkListed self.now.chip self.now.need at slot.old slot.new }
     {
         let mut room = full;
         let kinds = &self.chip.kinds[..];
