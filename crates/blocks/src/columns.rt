@@ -34,17 +34,17 @@ pub struct Block {
 
 impl<'a> Grid<'a> {
     // How many columns it has.
-    pub fn width(self) -> usize
-        ensures { (result ≡ self.entry.chip.now.width.0) × (result ≤ most_columns) }
+    pub fn width(self) -> Columns
+        ensures { (result.0 ≡ self.entry.chip.now.width.0) × (result.0 ≤ most_columns) }
     {
-        self.chip.width.0
+        self.chip.width
     }
 
     // How many rows it has.
-    pub fn height(self) -> usize
-        ensures { (result ≡ self.entry.chip.now.height.0) × (0 < result) × (result ≤ most_rows) }
+    pub fn height(self) -> Rows
+        ensures { (result.0 ≡ self.entry.chip.now.height.0) × (0 < result.0) × (result.0 ≤ most_rows) }
     {
-        self.chip.height.0
+        self.chip.height
     }
 
     // The number of each column's kind.
@@ -53,7 +53,7 @@ impl<'a> Grid<'a> {
         ensures many { length result.now ≡ self.entry.chip.now.width.0 }
         ensures most { length result.now ≤ most_columns }
     {
-        &self.chip.kinds[..self.width()]
+        &self.chip.kinds[..self.width().0]
     }
 
     // Column x.
@@ -72,7 +72,7 @@ impl<'a> Grid<'a> {
             multipliers: 0,
         };
         // stays: (d) the ranges, here and below, name columns and blocks of a column, and index no slice.
-        for x in 0..self.width() {
+        for x in 0..self.width().0 {
             if r.has_column(x) {
                 let column = self.column(x);
                 held = with_blocks(held, column.kind(), column.held_by(r));
@@ -85,7 +85,7 @@ impl<'a> Grid<'a> {
     pub fn each_cut<E, F: FnMut(Block) -> Result<(), E>>(self, r: Region, mut f: F) -> Result<(), E>
         requires { (state : F) (b : _) → IsTrue (cuts r.rectangle b.place.rectangle) → F.pre state b }
     {
-        for x in 0..self.width() {
+        for x in 0..self.width().0 {
             self.column(x).each_cut(r, &mut f)?;
         }
         Ok(())
@@ -95,7 +95,8 @@ impl<'a> Grid<'a> {
 impl<'a> Column<'a> {
     // Hands on each of its blocks that a region cuts, from below, until that fails.
     fn each_cut<E, F: FnMut(Block) -> Result<(), E>>(self, r: Region, mut f: F) -> Result<(), E>
-        requires { (state : F) (b : _) → IsTrue (cuts r.rectangle b.place.rectangle) → F.pre state b }
+        requires there { self.x < self.grid.chip.now.width.0 }
+        requires called { (state : F) (b : _) → IsTrue (cuts r.rectangle b.place.rectangle) → F.pre state b }
     {
         for j in 0..self.many() {
             let block = self.block(j);

@@ -5,7 +5,7 @@ mod columns;
 mod kind;
 mod plan;
 
-ghost use Rattle.std.specs.Prelude.{◌≡◌, ◌<◌, ◌&&◌, nat_le, nat_lt};
+ghost use Rattle.std.specs.Prelude.{◌≡◌, ◌<◌, ◌&&◌, min, max, nat_le, nat_lt};
 ghost use Rattle.rules.specs.Chip.{left, right, bottom, top};
 ghost use Rattle.rows.specs.Row.{Bytes};
 ghost use Rattle.blocks.specs.Cut.{covers, meets, cuts};
@@ -13,7 +13,7 @@ ghost use Rattle.blocks.specs.Cut.{covers, meets, cuts};
 pub use columns::{Block, Column, Grid};
 pub use kind::Kind;
 pub use plan::{Floorplan, Module};
-use rules::{Rectangle, Rows};
+use rules::{Columns, Rectangle, Rows};
 
 // Rows from low to before far.
 #[derive(Clone, Copy)]
@@ -31,38 +31,38 @@ pub struct Region {
 
 impl Region {
     // The column that it begins at.
-    pub fn left(self) -> usize
-        ensures { (result ≡ left self.rectangle) × (result < 256) }
+    pub fn left(self) -> Columns
+        ensures { (result.0 ≡ left self.rectangle) × (result.0 < 256) }
     {
-        self.rectangle.corner.x.0
+        self.rectangle.corner.x
     }
 
     // The column that it ends before.
-    pub fn right(self) -> usize
-        ensures { (result ≡ right self.rectangle) × (result < 512) }
+    pub fn right(self) -> Columns
+        ensures { (result.0 ≡ right self.rectangle) × (result.0 < 512) }
     {
-        self.left() + self.rectangle.shape.w.0
+        Columns(self.left().0 + self.rectangle.shape.w.0)
     }
 
     // The row that it begins at.
-    fn bottom(self) -> usize
-        ensures { (result ≡ bottom self.rectangle) × (result < 256) }
+    fn bottom(self) -> Rows
+        ensures { (result.0 ≡ bottom self.rectangle) × (result.0 < 256) }
     {
-        self.rectangle.corner.y.0
+        self.rectangle.corner.y
     }
 
     // The row that it ends before.
-    pub fn top(self) -> usize
-        ensures { (result ≡ top self.rectangle) × (result < 512) }
+    pub fn top(self) -> Rows
+        ensures { (result.0 ≡ top self.rectangle) × (result.0 < 512) }
     {
-        self.bottom() + self.rectangle.shape.h.0
+        Rows(self.bottom().0 + self.rectangle.shape.h.0)
     }
 
     // Column x is one of its columns.
     fn has_column(self, x: usize) -> bool
         ensures { result ≡ nat_le (left self.rectangle) x && nat_lt x (right self.rectangle) }
     {
-        self.left() <= x && x < self.right()
+        self.left().0 <= x && x < self.right().0
     }
 
     // It covers all rows of a block that stands in one of its columns.
@@ -70,7 +70,7 @@ impl Region {
     pub fn covers(self, block: Region) -> bool
         ensures { result ≡ covers self.rectangle block.rectangle }
     {
-        self.bottom() <= block.bottom() && block.top() <= self.top()
+        self.bottom().0 <= block.bottom().0 && block.top().0 <= self.top().0
     }
 
     // It has a cell in common with another.
@@ -78,10 +78,10 @@ impl Region {
     pub fn meets(self, other: Region) -> bool
         ensures { result ≡ meets self.rectangle other.rectangle }
     {
-        other.left() < self.right()
-            && self.left() < other.right()
-            && other.bottom() < self.top()
-            && self.bottom() < other.top()
+        other.left().0 < self.right().0
+            && self.left().0 < other.right().0
+            && other.bottom().0 < self.top().0
+            && self.bottom().0 < other.top().0
     }
 
     // It has some rows of a block, and not all: the block is never counted.
@@ -97,16 +97,19 @@ impl Region {
         ensures { (result.low.0 ≡ bottom self.rectangle) × (result.far.0 ≡ top self.rectangle) }
     {
         Span {
-            low: Rows(self.bottom()),
-            far: Rows(self.top()),
+            low: self.bottom(),
+            far: self.top(),
         }
     }
 
     // The rows that it and another both have.
-    pub fn common_rows(self, other: Region) -> Span {
+    pub fn common_rows(self, other: Region) -> Span
+        ensures low { result.low.0 ≡ max (bottom self.rectangle) (bottom other.rectangle) }
+        ensures far { result.far.0 ≡ min (top self.rectangle) (top other.rectangle) }
+    {
         Span {
-            low: Rows(self.bottom().max(other.bottom())),
-            far: Rows(self.top().min(other.top())),
+            low: Rows(self.bottom().0.max(other.bottom().0)),
+            far: Rows(self.top().0.min(other.top().0)),
         }
     }
 }

@@ -1,5 +1,5 @@
 // Amounts and places in words.
-ghost use Rattle.std.specs.Prelude.{◌≡◌, ◌*◌, ◌≤◌, ◌<◌};
+ghost use Rattle.std.specs.Prelude.{◌≡◌, ◌+◌, ◌-◌, ◌*◌, ◌≤◌, ◌<◌};
 
 use blocks::{Grid, Kind, Module, Region, Span};
 use rules::Need;
@@ -66,8 +66,8 @@ impl Display for Place {
     fn fmt<W: Write>(&self, f: &mut fmt::Formatter<W>) -> fmt::Result {
         let columns = Among {
             thing: "column",
-            from: self.0.left(),
-            end: self.0.right(),
+            from: self.0.left().0,
+            end: self.0.right().0,
         };
         let rows = rows_of(self.0.rows());
         write!(f, "{columns}, {rows}")
@@ -90,7 +90,10 @@ pub fn cells_of(r: Region) -> usize
 }
 
 // How many of its cells nothing needs: a CLB takes one, and a block as many as it is high.
-pub fn idle_cells(grid: Grid, module: Module) -> usize {
+pub fn idle_cells(grid: Grid, module: Module) -> usize
+    ensures { let n = module.need in let s = module.region.rectangle.shape in
+        result ≡ s.w.0 * s.h.0 - (n.clbs + grid.entry.chip.now.block.0 * (n.rams + n.multipliers)) }
+{
     let need = module.need;
     let taken = need.clbs + product(grid.chip.block.0, need.rams + need.multipliers);
     cells_of(module.region).saturating_sub(taken)

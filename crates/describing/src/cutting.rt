@@ -8,7 +8,7 @@ use std::fmt;
 // Says that a module's region cuts a block.
 fn say_cut(pen: &mut Pen, module: Module, block: Block) -> fmt::Result {
     let kind = block.kind;
-    let x = block.place.left();
+    let x = block.place.left().0;
     let rows = rows_of(block.place.rows());
     let has = rows_of(module.region.common_rows(block.place));
     pen.say_words(format_args!(

@@ -1,9 +1,10 @@
 // The chip below the regions: its columns by kind, and each block with its edges.
 use crate::elements::draw_area;
-use crate::places::{Area, CELL, LEFT, TOP, area_of, column_left};
+use crate::places::{Area, CELL, LEFT, TOP, across, area_of, column_left, up};
 use crate::styles;
 use blocks::{Column, Grid, Kind};
 use pen::Pen;
+use rules::Columns;
 use std::fmt;
 
 // The whole chip.
@@ -11,8 +12,8 @@ fn draw_ground(pen: &mut Pen, grid: Grid) -> fmt::Result {
     let area = Area {
         x: LEFT,
         y: TOP,
-        w: CELL * grid.width(),
-        h: CELL * grid.height(),
+        w: across(grid.width()),
+        h: up(grid.height()),
     };
     draw_area(pen, area, styles::NO_BLOCK)
 }
@@ -20,10 +21,10 @@ fn draw_ground(pen: &mut Pen, grid: Grid) -> fmt::Result {
 // A column of CLBs, by the pattern of one.
 fn draw_clbs(pen: &mut Pen, column: Column) -> fmt::Result {
     let area = Area {
-        x: column_left(column.x),
+        x: column_left(Columns(column.x)),
         y: TOP,
         w: CELL,
-        h: CELL * column.grid.height(),
+        h: up(column.grid.height()),
     };
     draw_area(pen, area, "fill=\"url(#clb)\"")
 }
@@ -40,7 +41,7 @@ fn draw_blocks(pen: &mut Pen, column: Column, style: &str) -> fmt::Result {
 // The chip.
 pub fn draw_chip(pen: &mut Pen, grid: Grid) -> fmt::Result {
     draw_ground(pen, grid)?;
-    for x in 0..grid.width() {
+    for x in 0..grid.width().0 {
         let column = grid.column(x);
         match column.kind() {
             Kind::Clb => draw_clbs(pen, column)?,

@@ -1,10 +1,13 @@
 // The sheet around the chip: where it begins and ends, its title, and the axes.
+ghost use Rattle.std.specs.Prelude.{◌<◌};
+
 use crate::elements::draw_words;
 use crate::places::{CELL, LEFT, TOP, column_left, rows_top, sheet_width};
 use crate::styles;
 use blocks::{Floorplan, Grid, Kind};
 use describing::{Amount, letter_of};
 use pen::Pen;
+use rules::{Columns, Rows};
 use std::fmt;
 
 // The pattern of CLBs, a cell each from the chip's corner on.
@@ -48,8 +51,8 @@ pub fn draw_titles(pen: &mut Pen, plan: Floorplan) -> fmt::Result {
     pen.write_line(format_args!(
         "<text x=\"24\" y=\"32\" font-size=\"18\" font-weight=\"bold\">Floorplan of {modules}</text>"
     ))?;
-    let columns = Amount(grid.width(), "column");
-    let rows = Amount(grid.height(), "row");
+    let columns = Amount(grid.width().0, "column");
+    let rows = Amount(grid.height().0, "row");
     let high = Amount(grid.chip.block.0, "row");
     let box_columns = Amount(plan.size.w.0, "column");
     let box_rows = Amount(plan.size.h.0, "row");
@@ -61,27 +64,34 @@ pub fn draw_titles(pen: &mut Pen, plan: Floorplan) -> fmt::Result {
 
 // The numbers and the kinds of the columns, below the chip.
 fn draw_column_numbers(pen: &mut Pen, grid: Grid) -> fmt::Result {
-    let below = rows_top(grid, 0);
+    let below = rows_top(grid, Rows(0));
     for (x, kind) in grid.kinds().iter().enumerate() {
-        let middle = column_left(x) + CELL / 2;
+        let middle = column_left(Columns(x)) + CELL / 2;
         draw_words(pen, middle, below + 20, &x)?;
         draw_words(pen, middle, below + 37, &letter_of(Kind::from(*kind)))?;
     }
     Ok(())
 }
 
-// The numbers of the rows, at the left.
+// The number of row y, at the left.
+fn draw_row_number(pen: &mut Pen, grid: Grid, y: Rows) -> fmt::Result
+    requires { y.0 < grid.chip.now.height.0 }
+{
+    draw_words(pen, LEFT - 10, rows_top(grid, y) - 10, &y.0)
+}
+
+// The numbers of the rows.
 fn draw_row_numbers(pen: &mut Pen, grid: Grid) -> fmt::Result {
     // stays: (d) y names a row, and indexes no slice.
-    for y in 0..grid.height() {
-        draw_words(pen, LEFT - 10, rows_top(grid, y) - 10, &y)?;
+    for y in 0..grid.height().0 {
+        draw_row_number(pen, grid, Rows(y))?;
     }
     Ok(())
 }
 
 // The axis of the rows, at the left, and the names of the lines below the chip.
 fn draw_row_axis(pen: &mut Pen, grid: Grid) -> fmt::Result {
-    let below = rows_top(grid, 0);
+    let below = rows_top(grid, Rows(0));
     pen.write_line("<g font-size=\"11\" text-anchor=\"end\">")?;
     draw_words(pen, LEFT - 10, TOP - 8, &"row")?;
     draw_row_numbers(pen, grid)?;

@@ -1,9 +1,10 @@
 // Where things stand on the sheet, in pixels from its upper left corner.
-ghost use Rattle.std.specs.Prelude.{◌≤◌};
+ghost use Rattle.std.specs.Prelude.{◌≡◌, ◌+◌, ◌-◌, ◌*◌, ◌≤◌, max};
 ghost use Rattle.rules.specs.Design.{most_rows};
 ghost use Rattle.rendering.specs.Sheet.{OnSheet};
 
 use blocks::{Grid, Region};
+use rules::{Columns, Rows};
 use std::fmt;
 
 // A cell's side.
@@ -43,26 +44,42 @@ impl fmt::Display for Area {
     }
 }
 
-// Where a column begins from the left.
-pub fn column_left(x: usize) -> usize
-    requires { x ≤ 256 }
-    ensures { result ≤ 8192 }
+// How far so many columns reach across the sheet.
+pub fn across(columns: Columns) -> usize
+    requires { columns.0 ≤ 256 }
+    ensures { result ≡ 28 * columns.0 }
 {
-    LEFT + CELL * x
+    CELL * columns.0
+}
+
+// How far so many rows reach up it.
+pub fn up(rows: Rows) -> usize
+    requires { rows.0 ≤ 256 }
+    ensures { result ≡ 28 * rows.0 }
+{
+    CELL * rows.0
+}
+
+// Where a column begins from the left.
+pub fn column_left(x: Columns) -> usize
+    requires { x.0 ≤ 256 }
+    ensures { (result ≡ 64 + 28 * x.0) × (result ≤ 8192) }
+{
+    LEFT + across(x)
 }
 
 // How many rows of the chip lie above those below `far`.
-fn rows_above(grid: Grid, far: usize) -> usize
-    ensures { result ≤ most_rows }
+fn rows_above(grid: Grid, far: Rows) -> Rows
+    ensures { (result.0 ≡ grid.entry.chip.now.height.0 - far.0) × (result.0 ≤ most_rows) }
 {
-    grid.height().saturating_sub(far)
+    Rows(grid.height().0.saturating_sub(far.0))
 }
 
 // Where the rows below `far` begin from above.
-pub fn rows_top(grid: Grid, far: usize) -> usize
+pub fn rows_top(grid: Grid, far: Rows) -> usize
     ensures { (88 ≤ result) × (result ≤ 8192) }
 {
-    TOP + CELL * rows_above(grid, far)
+    TOP + up(rows_above(grid, far))
 }
 
 // The area of a region of the chip.
@@ -72,23 +89,23 @@ pub fn area_of(grid: Grid, r: Region) -> Area
     Area {
         x: column_left(r.left()),
         y: rows_top(grid, r.top()),
-        w: CELL * r.rectangle.shape.w.0,
-        h: CELL * r.rectangle.shape.h.0,
+        w: across(r.rectangle.shape.w),
+        h: up(r.rectangle.shape.h),
     }
 }
 
 // Where the legend begins from the left.
 pub fn legend_left(grid: Grid) -> usize
-    ensures { result ≤ 8300 }
+    ensures { (result ≡ 88 + 28 * grid.entry.chip.now.width.0) × (result ≤ 8300) }
 {
     column_left(grid.width()) + MARGIN
 }
 
 // Where the words about the regions begin from above.
 pub fn words_top(grid: Grid) -> usize
-    ensures { result ≤ 8192 }
+    ensures { (result ≡ 88 + max (28 * grid.entry.chip.now.height.0 + 76) 232) × (result ≤ 8192) }
 {
-    TOP + (CELL * grid.height() + AXES).max(LEAST)
+    TOP + (up(grid.height()) + AXES).max(LEAST)
 }
 
 // How wide the sheet is.

@@ -1,9 +1,10 @@
 // The regions over the chip, each with its name, what they have of the blocks that they cut, and the box.
 use crate::elements::draw_area;
-use crate::places::{Area, CELL, LEFT, area_of, column_left, rows_top};
+use crate::places::{Area, CELL, LEFT, across, area_of, column_left, rows_top, up};
 use crate::styles;
 use blocks::{Block, Floorplan, Grid, Module, Region};
 use pen::Pen;
+use rules::Shape;
 use std::fmt;
 
 // A name is so long, and a letter so high; an area has to be so long for the name to fit.
@@ -48,8 +49,8 @@ fn sides_of(label: Label) -> (usize, usize) {
 fn part_of(grid: Grid, r: Region, block: Block) -> Area {
     let rows = r.common_rows(block.place);
     let x = column_left(block.place.left());
-    let y = rows_top(grid, rows.far.0);
-    let h = rows_top(grid, rows.low.0).saturating_sub(y);
+    let y = rows_top(grid, rows.far);
+    let h = rows_top(grid, rows.low).saturating_sub(y);
     Area { x, y, w: CELL, h }
 }
 
@@ -136,12 +137,12 @@ pub fn draw_regions(pen: &mut Pen, plan: Floorplan) -> fmt::Result {
 
 // The box, from the chip's lower left corner.
 pub fn draw_box(pen: &mut Pen, plan: Floorplan) -> fmt::Result {
-    let (w, h) = (plan.size.w.0, plan.size.h.0);
+    let Shape { w, h } = plan.size;
     let area = Area {
         x: LEFT - GAP,
         y: rows_top(plan.grid(), h) - GAP,
-        w: CELL * w + 2 * GAP,
-        h: CELL * h + 2 * GAP,
+        w: across(w) + 2 * GAP,
+        h: up(h) + 2 * GAP,
     };
     draw_area(pen, area, styles::OUTER)
 }

@@ -16,7 +16,7 @@ const NO_MODULE: char = '.';
 
 // How many digits the number of the highest row has.
 fn digits_of(grid: Grid) -> usize {
-    match grid.height() - 1 {
+    match grid.height().0 - 1 {
         0..=9 => 1,
         10..=99 => 2,
         _ => 3,
@@ -53,7 +53,7 @@ fn sign_at(plan: Floorplan, cell: Region) -> char {
 struct Row<'a> {
     plan: Floorplan<'a>,
     y: usize,
-    ghost on_chip: { y < 256 },
+    ghost on_chip: { y < plan.design.now.chip.height.0 },
 }
 
 impl<'a> Display for Row<'a> {
@@ -62,7 +62,7 @@ impl<'a> Display for Row<'a> {
         let wide = digits_of(grid);
         write!(f, "{:wide$} ", self.y)?;
         // stays: (d) the ranges, here and below, name columns and rows, and index no slice.
-        for x in 0..grid.width() {
+        for x in 0..grid.width().0 {
             let sign = sign_at(self.plan, cell(x, self.y));
             write!(f, " {sign}")?;
         }
@@ -88,10 +88,16 @@ impl<'a> Display for Kinds<'a> {
 
 // Writes the rows, from above.
 fn write_rows(pen: &mut Pen, plan: Floorplan) -> fmt::Result {
-    for y in (0..plan.grid().height()).rev() {
+    for y in (0..plan.grid().height().0).rev() {
         pen.write_line(Row { plan, y })?;
     }
     Ok(())
+}
+
+// Writes how high the blocks are.
+fn write_blocks(pen: &mut Pen, block: Rows) -> fmt::Result {
+    let high = Amount(block.0, "row");
+    pen.write_line(format_args!("RAM and multiplier blocks: {high} each, from row 0\n"))
 }
 
 // Writes the picture: rows, kinds, and how large the box and the blocks are.
@@ -99,11 +105,10 @@ fn write_picture(pen: &mut Pen, plan: Floorplan) -> fmt::Result {
     let grid = plan.grid();
     let columns = Amount(plan.size.w.0, "column");
     let rows = Amount(plan.size.h.0, "row");
-    let high = Amount(grid.chip.block.0, "row");
     write_rows(pen, plan)?;
     pen.write_line(Kinds(grid))?;
     pen.write_line(format_args!("\nbox from the lower left corner: {columns}, {rows}"))?;
-    pen.write_line(format_args!("RAM and multiplier blocks: {high} each, from row 0\n"))
+    write_blocks(pen, grid.chip.block)
 }
 
 // Writes a floorplan as text. The last line tells a reader that the drawing is whole.
