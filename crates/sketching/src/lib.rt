@@ -1,7 +1,7 @@
 // A floorplan as text: a row to a line, from above, with a sign for the module that has each cell.
 #![tactic(auto)]
 
-ghost use Rattle.std.specs.Prelude.{◌≡◌, ◌<◌};
+ghost use Rattle.std.specs.Prelude.{◌≡◌, ◌≤◌, ◌<◌};
 ghost use Rattle.rules.specs.Chip.{rectangle};
 
 use blocks::{Floorplan, Grid, Kind, Region};
@@ -15,7 +15,9 @@ use std::io::Stdout;
 const NO_MODULE: char = '.';
 
 // How many digits the number of the highest row has.
-fn digits_of(grid: Grid) -> usize {
+fn digits_of(grid: Grid) -> usize
+    ensures { result ≤ 3 }
+{
     match grid.height().0 - 1 {
         0..=9 => 1,
         10..=99 => 2,
