@@ -12,7 +12,7 @@ ghost use Rattle.blocks.specs.Drawable.{Drawable};
 use blocks::Floorplan;
 use cellweaver::{check, read};
 use input::{Format, ROWS_SIZE, parts_in, rows_in};
-use pen::{Form, LINE_SIZE, Pen};
+use pen::{Form, LINE_SIZE, Lines, Pen};
 use refusing::{Replied, Undrawn};
 use rendering::render;
 use rules::{Design, MOST_COLUMNS, MOST_ROWS, Refusal, Shape};
@@ -90,7 +90,7 @@ fn draw_stored(out: Stdout, line: &mut [u8], format: Format, stored: &Stored) ->
 pub fn draw(out: Stdout, input: &[u8], line: &mut [u8]) -> fmt::Result {
     match asked_in(input) {
         Ok((format, stored)) => draw_stored(out, line, format, &stored),
-        Err(why) => Pen::new(Form::Text, Some(out), line).write_line(why),
+        Err(why) => Lines::new(Pen::new(Form::Text, Some(out)), line).write_line(why),
     }
 }
 

@@ -25,32 +25,45 @@ pub enum Form {
     Svg { y: usize },
 }
 
-// Writes lines to standard output, which only main can lend it; a dry pen has no output, and nothing that it writes fails. It
-// has said so many cuts.
-#[derive(Drop)]
-pub struct Pen<'a> {
+// Writes to standard output, which only main can lend it; a dry pen has no output, and nothing that it writes fails. It has said
+// so many cuts.
+#[derive(Clone, Copy)]
+pub struct Pen {
     pub form: Form,
     pub cuts: usize,
-    out: Option<Stdout>,
-    line: Text<'a>,
+    pub out: Option<Stdout>,
 }
 
-impl<'a> Pen<'a> {
-    // A pen that has said no cut; each line has as many bytes as `line`.
-    pub fn new(form: Form, out: Option<Stdout>, line: &'a mut [u8]) -> Self
+impl Pen {
+    // A pen that has said no cut.
+    pub fn new(form: Form, out: Option<Stdout>) -> Self
         ensures { (result.form ≡ form) × (result.cuts ≡ 0) }
     {
-        Pen {
-            form,
-            cuts: 0,
-            out,
-            line: Text::new(line),
-        }
+        Pen { form, cuts: 0, out }
     }
 
     // It has said one more.
     pub fn count_cut(&mut self) {
         self.cuts = self.cuts.wrapping_add(1);
+    }
+}
+
+// A pen and the line that it writes.
+#[derive(Drop)]
+pub struct Lines<'a> {
+    pub pen: Pen,
+    line: Text<'a>,
+}
+
+impl<'a> Lines<'a> {
+    // Lines of a pen, each with as many bytes as `line`.
+    pub fn new(pen: Pen, line: &'a mut [u8]) -> Self
+        ensures { result.pen ≡ pen }
+    {
+        Lines {
+            pen,
+            line: Text::new(line),
+        }
     }
 
     // Writes a line as it is.
@@ -61,7 +74,7 @@ impl<'a> Pen<'a> {
 
     // Writes a region's name.
     pub fn say_name<D: Display + Drop>(&mut self, name: D) -> fmt::Result {
-        match self.form {
+        match self.pen.form {
             Form::Text => self.write_line(name),
             Form::Svg { y } => {
                 write!(
@@ -75,7 +88,7 @@ impl<'a> Pen<'a> {
 
     // Writes what is said of a region, further in.
     pub fn say_words<D: Display + Drop>(&mut self, words: D) -> fmt::Result {
-        match self.form {
+        match self.pen.form {
             Form::Text => self.write_line(format_args!("   {words}")),
             Form::Svg { y } => {
                 write!(self.line, "<text x=\"{WORDS_LEFT}\" y=\"{y}\">{words}")?;
@@ -86,7 +99,7 @@ impl<'a> Pen<'a> {
 
     // Ends a line of words at height y, and goes a line further down.
     fn end_words(&mut self, y: usize) -> fmt::Result {
-        self.form = Form::Svg {
+        self.pen.form = Form::Svg {
             y: y.wrapping_add(LINE),
         };
         writeln!(self.line, "</text>")?;
@@ -95,7 +108,7 @@ impl<'a> Pen<'a> {
 
     // Writes what is put, and clears the line. One that fills its room may have lost its end, so it counts as not written.
     fn write(&mut self) -> fmt::Result {
-        let written = match self.out {
+        let written = match self.pen.out {
             None => true,
             Some(out) => !self.line.is_full() && out.write_all(self.line.said()).is_ok(),
         };

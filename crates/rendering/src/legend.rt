@@ -3,7 +3,7 @@ use crate::elements::{draw_area, draw_words};
 use crate::places::{Area, TOP, legend_left};
 use crate::styles;
 use blocks::Grid;
-use pen::Pen;
+use pen::Lines;
 use std::fmt;
 
 // How far the entries stand apart.
@@ -21,13 +21,13 @@ const ENTRIES: [(&str, &str); 7] = [
 ];
 
 // The legend.
-pub fn draw_legend(pen: &mut Pen, grid: Grid) -> fmt::Result {
+pub fn draw_legend(lines: &mut Lines, grid: Grid) -> fmt::Result {
     let x = legend_left(grid);
     for (place, (style, words)) in ENTRIES.iter().enumerate() {
         let y = TOP + ENTRY * place;
         let area = Area { x, y, w: 28, h: 20 };
-        draw_area(pen, area, style)?;
-        draw_words(pen, x + 38, y + 15, words)?;
+        draw_area(lines, area, style)?;
+        draw_words(lines, x + 38, y + 15, words)?;
     }
     Ok(())
 }

@@ -3,7 +3,7 @@ use crate::elements::draw_area;
 use crate::places::{Area, CELL, LEFT, across, area_of, column_left, rows_top, up};
 use crate::styles;
 use blocks::{Block, Floorplan, Grid, Module, Region};
-use pen::Pen;
+use pen::Lines;
 use rules::Shape;
 use std::fmt;
 
@@ -55,15 +55,15 @@ fn part_of(grid: Grid, r: Region, block: Block) -> Area {
 }
 
 // What the region has of each block that it cuts, hatched, and the whole block's edge.
-fn draw_cuts(pen: &mut Pen, grid: Grid, r: Region) -> fmt::Result {
+fn draw_cuts(lines: &mut Lines, grid: Grid, r: Region) -> fmt::Result {
     grid.each_cut(r, |block| {
-        draw_area(pen, part_of(grid, r, block), styles::CUT)?;
-        draw_area(pen, area_of(grid, block.place), styles::CUT_EDGE)
+        draw_area(lines, part_of(grid, r, block), styles::CUT)?;
+        draw_area(lines, area_of(grid, block.place), styles::CUT_EDGE)
     })
 }
 
 // A region's outline, a little inside of it.
-fn draw_outline(pen: &mut Pen, grid: Grid, r: Region) -> fmt::Result {
+fn draw_outline(lines: &mut Lines, grid: Grid, r: Region) -> fmt::Result {
     let a = area_of(grid, r);
     let outline = Area {
         x: a.x + GAP / 2,
@@ -71,11 +71,11 @@ fn draw_outline(pen: &mut Pen, grid: Grid, r: Region) -> fmt::Result {
         w: a.w.saturating_sub(GAP),
         h: a.h.saturating_sub(GAP),
     };
-    draw_area(pen, outline, styles::REGION)
+    draw_area(lines, outline, styles::REGION)
 }
 
 // Names a module in the middle of its region, over a light ground of the name's own.
-fn draw_name(pen: &mut Pen, grid: Grid, module: Module) -> fmt::Result {
+fn draw_name(lines: &mut Lines, grid: Grid, module: Module) -> fmt::Result {
     let a = area_of(grid, module.region);
     let label = label_in(a);
     let (w, h) = sides_of(label);
@@ -86,7 +86,7 @@ fn draw_name(pen: &mut Pen, grid: Grid, module: Module) -> fmt::Result {
         w,
         h,
     };
-    draw_area(pen, ground, styles::NAME)?;
+    draw_area(lines, ground, styles::NAME)?;
     let turn = if label == Label::Up {
         " rotate(-90)"
     } else {
@@ -98,45 +98,45 @@ fn draw_name(pen: &mut Pen, grid: Grid, module: Module) -> fmt::Result {
         "module "
     };
     let k = module.number;
-    pen.write_line(format_args!(
+    lines.write_line(format_args!(
         "<text y=\"5\" text-anchor=\"middle\" font-weight=\"bold\" transform=\"translate({x} {y}){turn}\">{word}{k}</text>"
     ))
 }
 
 // Outlines the regions.
-fn draw_outlines(pen: &mut Pen, plan: Floorplan) -> fmt::Result {
+fn draw_outlines(lines: &mut Lines, plan: Floorplan) -> fmt::Result {
     // stays: (d) k names a module, here and below; the three differ in a call, and a closure for it would be longer.
     for k in 0..plan.modules() {
-        draw_outline(pen, plan.grid(), plan.region(k))?;
+        draw_outline(lines, plan.grid(), plan.region(k))?;
     }
     Ok(())
 }
 
 // Hatches what the regions have of blocks that they cut.
-fn draw_all_cuts(pen: &mut Pen, plan: Floorplan) -> fmt::Result {
+fn draw_all_cuts(lines: &mut Lines, plan: Floorplan) -> fmt::Result {
     for k in 0..plan.modules() {
-        draw_cuts(pen, plan.grid(), plan.region(k))?;
+        draw_cuts(lines, plan.grid(), plan.region(k))?;
     }
     Ok(())
 }
 
 // Names the regions.
-fn draw_names(pen: &mut Pen, plan: Floorplan) -> fmt::Result {
+fn draw_names(lines: &mut Lines, plan: Floorplan) -> fmt::Result {
     for k in 0..plan.modules() {
-        draw_name(pen, plan.grid(), plan.module(k))?;
+        draw_name(lines, plan.grid(), plan.module(k))?;
     }
     Ok(())
 }
 
 // The regions: outlines over what is below, cuts over those so that none is hidden, and the names last.
-pub fn draw_regions(pen: &mut Pen, plan: Floorplan) -> fmt::Result {
-    draw_outlines(pen, plan)?;
-    draw_all_cuts(pen, plan)?;
-    draw_names(pen, plan)
+pub fn draw_regions(lines: &mut Lines, plan: Floorplan) -> fmt::Result {
+    draw_outlines(lines, plan)?;
+    draw_all_cuts(lines, plan)?;
+    draw_names(lines, plan)
 }
 
 // The box, from the chip's lower left corner.
-pub fn draw_box(pen: &mut Pen, plan: Floorplan) -> fmt::Result {
+pub fn draw_box(lines: &mut Lines, plan: Floorplan) -> fmt::Result {
     let Shape { w, h } = plan.size;
     let area = Area {
         x: LEFT - GAP,
@@ -144,5 +144,5 @@ pub fn draw_box(pen: &mut Pen, plan: Floorplan) -> fmt::Result {
         w: across(w) + 2 * GAP,
         h: up(h) + 2 * GAP,
     };
-    draw_area(pen, area, styles::OUTER)
+    draw_area(lines, area, styles::OUTER)
 }

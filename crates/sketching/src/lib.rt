@@ -6,7 +6,7 @@ ghost use Rattle.rules.specs.Chip.{rectangle};
 
 use blocks::{Floorplan, Grid, Kind, Region};
 use describing::{Amount, letter_of, say_regions, sign_of};
-use pen::{Form, Pen};
+use pen::{Form, Lines, Pen};
 use rules::{Columns, Corner, Rectangle, Rows, Shape};
 use std::fmt;
 use std::fmt::{Display, Write};
@@ -89,36 +89,36 @@ impl<'a> Display for Kinds<'a> {
 }
 
 // Writes the rows, from above.
-fn write_rows(pen: &mut Pen, plan: Floorplan) -> fmt::Result {
+fn write_rows(lines: &mut Lines, plan: Floorplan) -> fmt::Result {
     for y in (0..plan.grid().height().0).rev() {
-        pen.write_line(Row { plan, y })?;
+        lines.write_line(Row { plan, y })?;
     }
     Ok(())
 }
 
 // Writes how high the blocks are.
-fn write_blocks(pen: &mut Pen, block: Rows) -> fmt::Result {
+fn write_blocks(lines: &mut Lines, block: Rows) -> fmt::Result {
     let high = Amount(block.0, "row");
-    pen.write_line(format_args!("RAM and multiplier blocks: {high} each, from row 0\n"))
+    lines.write_line(format_args!("RAM and multiplier blocks: {high} each, from row 0\n"))
 }
 
 // Writes the picture: rows, kinds, and how large the box and the blocks are.
-fn write_picture(pen: &mut Pen, plan: Floorplan) -> fmt::Result {
+fn write_picture(lines: &mut Lines, plan: Floorplan) -> fmt::Result {
     let grid = plan.grid();
     let columns = Amount(plan.size.w.0, "column");
     let rows = Amount(plan.size.h.0, "row");
-    write_rows(pen, plan)?;
-    pen.write_line(Kinds(grid))?;
-    pen.write_line(format_args!("\nbox from the lower left corner: {columns}, {rows}"))?;
-    write_blocks(pen, grid.chip.block)
+    write_rows(lines, plan)?;
+    lines.write_line(Kinds(grid))?;
+    lines.write_line(format_args!("\nbox from the lower left corner: {columns}, {rows}"))?;
+    write_blocks(lines, grid.chip.block)
 }
 
 // Writes a floorplan as text. The last line tells a reader that the drawing is whole.
 pub fn sketch(out: Stdout, line: &mut [u8], plan: Floorplan) -> fmt::Result {
-    let mut pen = Pen::new(Form::Text, Some(out), line);
-    write_picture(&mut pen, plan)?;
-    say_regions(&mut pen, plan)?;
+    let mut lines = Lines::new(Pen::new(Form::Text, Some(out)), line);
+    write_picture(&mut lines, plan)?;
+    say_regions(&mut lines, plan)?;
     let modules = Amount(plan.modules(), "module");
-    let cuts = pen.cuts;
-    pen.write_line(format_args!("\ndrawn: {modules}, cuts of blocks: {cuts}"))
+    let cuts = lines.pen.cuts;
+    lines.write_line(format_args!("\ndrawn: {modules}, cuts of blocks: {cuts}"))
 }
