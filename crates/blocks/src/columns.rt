@@ -109,7 +109,7 @@ impl<'a> Column<'a> {
 
     // The number of its kind.
     // stays: (a) `kind_at` and `column_of` of the rules, which the contracts name, take it, here and below.
-    fn number(self) -> u8
+    pub fn number(self) -> u8
         ensures { result ≡ kind_at self.entry.grid.chip.now self.entry.x }
     {
         self.grid.chip.kinds[self.x]
