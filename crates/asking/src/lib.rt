@@ -28,6 +28,7 @@ fn ask(
 ) -> Result<fmt::Result, Why>
     ensures work { work.new.count ≡ work.old.count }
     ensures rows { rows.new.count ≡ rows.old.count }
+    ensures room { text.new.room ≡ text.old.room }
 {
     let w = work.count;
     let r = rows.count;
@@ -35,7 +36,9 @@ fn ask(
 }
 
 // Keeps what a line holds or lends, or asks a service and puts its answer.
-fn answered(line: &[u8], held: &mut Held, text: &mut Text) -> Result<fmt::Result, Why> {
+fn answered(line: &[u8], held: &mut Held, text: &mut Text) -> Result<fmt::Result, Why>
+    ensures { text.new.room ≡ text.old.room }
+{
     match request_in(line) {
         Some(request) => {
             held.keep(request, line)?;
@@ -46,12 +49,16 @@ fn answered(line: &[u8], held: &mut Held, text: &mut Text) -> Result<fmt::Result
 }
 
 // Puts the answer to the bad line of this number. A text takes what has room, so that putting never fails.
-pub fn put_bad(number: usize, why: Why, text: &mut Text) {
+pub fn put_bad(number: usize, why: Why, text: &mut Text)
+    ensures { text.new.room ≡ text.old.room }
+{
     let _ = writeln!(text, "bad {number}: {why}");
 }
 
 // Serves the line of this number: keeps what it holds or lends, or asks a service, and puts the answer, if there is one.
-pub fn serve(line: &[u8], number: usize, held: &mut Held, text: &mut Text) {
+pub fn serve(line: &[u8], number: usize, held: &mut Held, text: &mut Text)
+    ensures { text.new.room ≡ text.old.room }
+{
     match answered(line, held, text) {
         Ok(put) => {
             let _ = put;

@@ -1,5 +1,5 @@
 // `slot T X Y`: looks at the slot of node t at a corner in the lent work: slot BYTES
-ghost use Rattle.std.specs.Prelude.{◌≤◌, ◌<◌};
+ghost use Rattle.std.specs.Prelude.{◌≡◌, ◌≤◌, ◌<◌};
 
 use rules::{Columns, Corner, Design, MOST_COLUMNS, MOST_MODULES, MOST_ROWS, Rows};
 use slots::{Board, slot_start};
@@ -45,7 +45,9 @@ fn slot_in(design: Design, work: &[u8], t: usize, x: usize, y: usize) -> Option<
     work.get(start..)?.get(..design.chip.width.0)
 }
 
-pub fn look(line: &[u8], design: Design, work: &[u8], text: &mut Text) -> Result<fmt::Result, Why> {
+pub fn look(line: &[u8], design: Design, work: &[u8], text: &mut Text) -> Result<fmt::Result, Why>
+    ensures { text.new.room ≡ text.old.room }
+{
     let mut said = [0usize; 3];
     numbers_in(b' ', words(line, 1, 3), &mut said)?;
     let [t, x, y] = said;

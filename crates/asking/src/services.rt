@@ -1,5 +1,7 @@
 // The services as a line asks them: which one, what the line says to it, and its answer as a line of text. The design that a
 // service hands back is then held.
+ghost use Rattle.std.specs.Prelude.{◌≡◌};
+
 use crate::looking::look;
 use crate::scores::score;
 use crate::writes::write;
@@ -21,7 +23,9 @@ fn said(reply: Result<(), Refusal>) -> Numbered {
 }
 
 // `read BYTES`: reads a design: read NUMBER POSITION DESIGN
-fn read(line: &[u8], design: &mut Design, text: &mut Text) -> Result<fmt::Result, Why> {
+fn read(line: &[u8], design: &mut Design, text: &mut Text) -> Result<fmt::Result, Why>
+    ensures { text.new.room ≡ text.old.room }
+{
     let mut bytes = [0u8; MOST_SAID];
     let n = bytes_in(word(line, 1), &mut bytes)?;
     let handed = cellweaver::read(&bytes[..n]);
@@ -36,7 +40,9 @@ fn edit(
     design: &mut Design,
     work: &mut [u8],
     text: &mut Text,
-) -> Result<fmt::Result, Why> {
+) -> Result<fmt::Result, Why>
+    ensures { text.new.room ≡ text.old.room }
+{
     let handed = cellweaver::edit(*design, edit_in(line)?, work);
     *design = handed.design;
     let Numbered(number, _) = said(handed.reply);
@@ -45,13 +51,17 @@ fn edit(
 }
 
 // Lists: list NUMBER WORK
-fn list(design: Design, work: &mut [u8], text: &mut Text) -> fmt::Result {
+fn list(design: Design, work: &mut [u8], text: &mut Text) -> fmt::Result
+    ensures { text.new.room ≡ text.old.room }
+{
     let Numbered(number, _) = said(cellweaver::list(design, work));
     writeln!(text, "list {number} {}", Hash(work))
 }
 
 // Checks: check NUMBER WHICH
-fn check(design: Design, rows: &[u8], text: &mut Text) -> fmt::Result {
+fn check(design: Design, rows: &[u8], text: &mut Text) -> fmt::Result
+    ensures { text.new.room ≡ text.old.room }
+{
     let Numbered(number, which) = said(cellweaver::check(design, rows));
     writeln!(text, "check {number} {which}")
 }
@@ -63,7 +73,9 @@ fn put_planned(
     rows: &[u8],
     work: &[u8],
     text: &mut Text,
-) -> fmt::Result {
+) -> fmt::Result
+    ensures { text.new.room ≡ text.old.room }
+{
     match planned {
         Ok(s) => {
             write!(text, "{name} 0 {} {} {}", s.w.0, s.h.0, Hex(rows))?;
@@ -92,7 +104,9 @@ pub fn answer(
     work: &mut [u8],
     rows: &mut [u8],
     text: &mut Text,
-) -> Result<fmt::Result, Why> {
+) -> Result<fmt::Result, Why>
+    ensures { text.new.room ≡ text.old.room }
+{
     match (word(line, 0), count(line)) {
         (b"read", 2) => read(line, design, text),
         (b"write", 3) => write(line, *design, text),

@@ -4,6 +4,7 @@
 mod faults;
 mod none;
 
+ghost use Rattle.std.specs.Prelude.{◌≡◌};
 ghost use Rattle.rules.specs.Design.{LawfulDesign};
 
 use cellweaver::{plan, read, work_needed};
@@ -26,6 +27,7 @@ fn put_planned(
     lent: usize,
 ) -> fmt::Result
     requires { LawfulDesign design }
+    ensures { line.new.room ≡ line.old.room }
 {
     match planned {
         Ok(shape) => {
@@ -45,7 +47,9 @@ fn put_planned(
 }
 
 // A refusal of reading. Text is no design's bytes, whatever number they would be.
-fn put_refused(line: &mut Text, bytes: &[u8], refusal: Refusal) -> fmt::Result {
+fn put_refused(line: &mut Text, bytes: &[u8], refusal: Refusal) -> fmt::Result
+    ensures { line.new.room ≡ line.old.room }
+{
     if is_typed(bytes) {
         return write!(
             line,
@@ -63,7 +67,9 @@ fn put_refused(line: &mut Text, bytes: &[u8], refusal: Refusal) -> fmt::Result {
 
 // Puts the sentence for what was read.
 #[tactic(auto, using(crate::proofs::Read::lawful_read))]
-fn put_sentence(line: &mut Text, bytes: &[u8], work: &mut [u8], rows: &mut [u8]) -> fmt::Result {
+fn put_sentence(line: &mut Text, bytes: &[u8], work: &mut [u8], rows: &mut [u8]) -> fmt::Result
+    ensures { line.new.room ≡ line.old.room }
+{
     let handed = read(bytes);
     let reply = handed.reply;
     let design = handed.design;
@@ -77,7 +83,9 @@ fn put_sentence(line: &mut Text, bytes: &[u8], work: &mut [u8], rows: &mut [u8])
 }
 
 // Puts the line for what the plan program answers to these bytes, with this work and these rows.
-pub fn say(bytes: &[u8], work: &mut [u8], rows: &mut [u8], line: &mut Text) {
+pub fn say(bytes: &[u8], work: &mut [u8], rows: &mut [u8], line: &mut Text)
+    ensures { line.new.room ≡ line.old.room }
+{
     // putting never fails
     let _ = put_sentence(line, bytes, work, rows);
     line.put_byte(b'\n');

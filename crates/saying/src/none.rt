@@ -1,4 +1,5 @@
 // No placement: told by sums where they alone tell, of what the chip has and what the modules need.
+ghost use Rattle.std.specs.Prelude.{◌≡◌};
 ghost use Rattle.std.proofs.Math.Bool.{So};
 ghost use Rattle.rules.specs.Design.{lawful_chip, LawfulDesign};
 
@@ -61,6 +62,7 @@ fn modules_need(design: Design) -> Need
 #[tactic(auto, using(rules::proofs::Limits::lawful_chip_lem))]
 pub fn put_no_placement(line: &mut Text, design: Design) -> fmt::Result
     requires { LawfulDesign design }
+    ensures { line.new.room ≡ line.old.room }
 {
     let has = chip_has(design.chip);
     let need = modules_need(design);

@@ -1,2 +1,3 @@
 -- What the contracts cite.
 pub mod Said
+pub mod Printed

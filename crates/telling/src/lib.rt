@@ -2,11 +2,13 @@
 // for every answer, so putting never fails.
 #![tactic(auto)]
 
+mod printing;
 mod shown;
 
-ghost use Rattle.std.specs.Prelude.{◌≡◌, ◌==◌, ◌∷◌, [], length};
+ghost use Rattle.std.specs.Prelude.{◌≡◌, ◌≤◌, ◌==◌, ◌∷◌, [], length, OnOk, IfSome};
 ghost use Rattle.telling.specs.Said.{with_bytes};
 
+use printing::print;
 pub use shown::{Bits, Hash, Hex};
 use std::fmt;
 use std::fmt::Write;
@@ -41,7 +43,8 @@ impl<'a> Text<'a> {
 
     // What is put so far.
     pub fn said(&self) -> &[u8]
-        ensures { result.now ≡ self.now.text }
+        ensures text { result.now ≡ self.now.text }
+        ensures room { length result.now ≤ self.now.room }
     {
         &self.bytes[..self.len]
     }
@@ -79,6 +82,17 @@ impl<'a> Text<'a> {
         for b in bytes {
             self.put_byte(*b);
         }
+    }
+
+    // What `write!` and `writeln!` call: puts what is printed. The room stays, whatever is printed.
+    pub fn write_fmt<D: fmt::Display + Drop>(&mut self, value: D) -> fmt::Result
+        ensures room { self.new.room ≡ self.old.room }
+        ensures text { OnOk result (IfSome (D.output value) (λ s. self.new ≡ with_bytes self.old s)) }
+    {
+        let len = self.len;
+        let (more, put) = print(&mut self.bytes[len..], value);
+        self.len = len + more;
+        put
     }
 }
 

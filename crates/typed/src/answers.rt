@@ -1,4 +1,6 @@
 // Answers whose first byte says whether the rest is what was asked for or a line on what is wrong, since a program has no exit status.
+ghost use Rattle.std.specs.Prelude.{◌≡◌};
+
 use crate::back::put_back;
 use crate::turn;
 use std::fmt;
@@ -17,7 +19,9 @@ fn line_of(text: &[u8], at: usize) -> usize {
 }
 
 // The answer is what is wrong, in a line.
-fn refuse<D: fmt::Display + Drop>(answer: &mut Text, wrong: D) {
+fn refuse<D: fmt::Display + Drop>(answer: &mut Text, wrong: D)
+    ensures { answer.new.room ≡ answer.old.room }
+{
     answer.clear();
     answer.put_byte(REFUSED);
     // putting never fails
@@ -25,7 +29,9 @@ fn refuse<D: fmt::Display + Drop>(answer: &mut Text, wrong: D) {
 }
 
 // There is more to turn than there is room for.
-fn refuse_longer(answer: &mut Text, most: usize) {
+fn refuse_longer(answer: &mut Text, most: usize)
+    ensures { answer.new.room ≡ answer.old.room }
+{
     refuse(
         answer,
         format_args!("this is too long; at most {most} bytes"),
@@ -33,7 +39,9 @@ fn refuse_longer(answer: &mut Text, most: usize) {
 }
 
 // The answer is the bytes that a text of at most so many bytes says.
-pub fn answer_text(text: &[u8], most: usize, answer: &mut Text) {
+pub fn answer_text(text: &[u8], most: usize, answer: &mut Text)
+    ensures { answer.new.room ≡ answer.old.room }
+{
     if text.len() > most {
         refuse_longer(answer, most);
         return;
@@ -47,7 +55,9 @@ pub fn answer_text(text: &[u8], most: usize, answer: &mut Text) {
 }
 
 // The answer is the text of at most so many bytes.
-pub fn answer_back(bytes: &[u8], most: usize, answer: &mut Text) {
+pub fn answer_back(bytes: &[u8], most: usize, answer: &mut Text)
+    ensures { answer.new.room ≡ answer.old.room }
+{
     if bytes.len() > most {
         refuse_longer(answer, most);
         return;

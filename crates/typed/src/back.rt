@@ -1,5 +1,5 @@
 // A design's bytes as text: each number on a line, with a comment that says what it is.
-ghost use Rattle.std.specs.Prelude.{◌+◌, ◌≤◌, ◌<◌, ◌^◌, length};
+ghost use Rattle.std.specs.Prelude.{◌≡◌, ◌+◌, ◌≤◌, ◌<◌, ◌^◌, length};
 ghost use Rattle.std.specs.Iterator.{at_most};
 
 use fields::{Field, Sizes, field_of, sizes_of};
@@ -99,7 +99,9 @@ impl<'a> Iterator for Lines<'a> {
 }
 
 // Puts a design's bytes as text.
-pub fn put_back(text: &mut Text, s: &[u8]) {
+pub fn put_back(text: &mut Text, s: &[u8])
+    ensures { text.new.room ≡ text.old.room }
+{
     let lines = Lines {
         rest: s,
         sizes: sizes_of(s),

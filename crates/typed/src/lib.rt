@@ -7,6 +7,8 @@ mod back;
 mod digits;
 mod text;
 
+ghost use Rattle.std.specs.Prelude.{◌≡◌};
+
 pub use answers::{answer_back, answer_text};
 pub use back::put_back;
 use digits::{Digit, Digits};
@@ -55,7 +57,9 @@ pub fn is_typed(text: &[u8]) -> bool {
 }
 
 // Puts the bytes that a text says, up to the first mistake.
-pub fn turn(text: &[u8], out: &mut Text) -> Result<(), Mistake> {
+pub fn turn(text: &[u8], out: &mut Text) -> Result<(), Mistake>
+    ensures { out.new.room ≡ out.old.room }
+{
     // the first digit of a byte, which waits for the second
     let mut waiting = None;
     for (at, digit) in Digits::new(text).enumerate() {
