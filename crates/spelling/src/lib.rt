@@ -9,7 +9,7 @@ mod told;
 pub use edits::edit_in;
 use rules::{Chip, Columns, Design, MOST_COLUMNS, MOST_MODULES, MOST_TOKENS, Need, Rows};
 pub use said::design_in;
-pub use scores::{Places, score_in};
+pub use scores::{NET_PLACES, Places, TERM_PLACES, score_in};
 pub use told::{Told, token_count};
 
 // How many numbers a need has, and how many all needs have.

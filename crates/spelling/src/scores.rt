@@ -7,10 +7,10 @@ ghost use Rattle.spelling.specs.Placed.{term_places, net_places};
 use rules::{MOST_MODULES, MOST_NETS, MOST_TERMS};
 use words::{Why, number_in, weight_in};
 
-const TERM_PLACES: usize = MOST_TERMS + 1;
+pub const TERM_PLACES: usize = MOST_TERMS + 1;
 
 // A net takes a byte for the number of its members, and one for each.
-const NET_PLACES: usize = (MOST_NETS + 1) * (MOST_MODULES + 2);
+pub const NET_PLACES: usize = (MOST_NETS + 1) * (MOST_MODULES + 2);
 
 // stays: (a) no heap: fixed places, their number beside them; score_slices, which C calls, takes kinds and weights as two slices.
 // Terms and nets in their places: how many terms and how many bytes of nets are put, and where the last net stands.

@@ -1,6 +1,6 @@
 // A design as a line says it, which `Display` puts: W H B KINDS M NEEDS TOKENS. Each row is shown whole: as many places as the
 // design has, and more where they are not zero.
-ghost use Rattle.std.specs.Prelude.{◌≤◌};
+ghost use Rattle.std.specs.Prelude.{◌≡◌, ◌≤◌, length, take};
 
 use crate::{MOST_NUMBERS, NEED_NUMBERS};
 use rules::{Chip, Design, MOST_MODULES, Need};
@@ -16,7 +16,10 @@ pub struct Told(pub Design);
 struct List<'a>(&'a [usize]);
 
 // A row's first places: so many, if there are, and more up to the last that is not zero.
-fn shown<T: Copy + Default + PartialEq>(row: &[T], whole: usize) -> &[T] {
+fn shown<T: Copy + Default + PartialEq>(row: &[T], whole: usize) -> &[T]
+    ensures places { length result.now ≤ length row.now }
+    ensures first { result.now ≡ take (length result.now) row.now }
+{
     let zero = T::default();
     let nonzero = match row.iter().rposition(|x| *x != zero) {
         Some(last) => last + 1,
