@@ -3,7 +3,7 @@
 
 mod lines;
 
-use asking::{Held, Why, put_bad, serve};
+use asking::{Desk, Why, put_bad, serve};
 use lines::Reading;
 use taking::write_or_say;
 use telling::Text;
@@ -23,14 +23,14 @@ fn answer(
     rt: &(impl Print + Eprint),
     reading: &Reading,
     number: usize,
-    held: &mut Held,
+    desk: &mut Desk,
     out: &mut [u8],
 ) -> bool {
     let mut text = Text::new(out);
     if reading.is_long() {
         put_bad(number, Why::TooLong, &mut text);
     } else {
-        serve(reading.line(), number, held, &mut text);
+        serve(reading.line(), number, desk, &mut text);
     }
     write_or_say(rt, text.said()).is_ok()
 }
@@ -40,14 +40,14 @@ fn step(
     rt: &(impl Input + Print + Eprint),
     reading: &mut Reading,
     number: usize,
-    held: &mut Held,
+    desk: &mut Desk,
     out: &mut [u8],
 ) -> bool {
     reading.read_line(rt);
     if reading.is_done() {
         return false;
     }
-    let written = answer(rt, reading, number, held, out);
+    let written = answer(rt, reading, number, desk, out);
     reading.pass();
     written
 }
@@ -61,10 +61,10 @@ fn run(
     out: &mut [u8],
 ) {
     let mut reading = Reading::new(input);
-    let mut held = Held::nothing(work, rows);
+    let mut desk = Desk::nothing(work, rows);
     // stays: (d) the number is the line's, which a bad line's answer says, and counts the turns too.
     for number in 1..usize::MAX {
-        if !step(rt, &mut reading, number, &mut held, out) {
+        if !step(rt, &mut reading, number, &mut desk, out) {
             return;
         }
     }

@@ -6,9 +6,10 @@ mod scores;
 mod services;
 mod writes;
 
-ghost use Rattle.std.specs.Prelude.{◌≡◌};
+ghost use Rattle.std.specs.Prelude.{◌≡◌, OnErr};
+ghost use Rattle.keeping.specs.Keeps.{held_on};
 
-pub use keeping::Held;
+pub use keeping::{Desk, Held};
 use keeping::{Lent, request_in};
 use rules::Design;
 use services::answer;
@@ -26,6 +27,7 @@ fn ask(
     rows: &mut Lent,
     text: &mut Text,
 ) -> Result<fmt::Result, Why>
+    ensures design { OnErr result (design.new ≡ design.old) }
     ensures work { work.new.count ≡ work.old.count }
     ensures rows { rows.new.count ≡ rows.old.count }
     ensures room { text.new.room ≡ text.old.room }
@@ -36,15 +38,16 @@ fn ask(
 }
 
 // Keeps what a line holds or lends, or asks a service and puts its answer.
-fn answered(line: &[u8], held: &mut Held, text: &mut Text) -> Result<fmt::Result, Why>
-    ensures { text.new.room ≡ text.old.room }
+fn answered(line: &[u8], desk: &mut Desk, text: &mut Text) -> Result<fmt::Result, Why>
+    ensures bad { OnErr result (held_on desk.new ≡ held_on desk.old) }
+    ensures room { text.new.room ≡ text.old.room }
 {
     match request_in(line) {
         Some(request) => {
-            held.keep(request, line)?;
+            desk.keep(request, line)?;
             Ok(Ok(()))
         }
-        None => ask(line, &mut held.design, &mut held.work, &mut held.rows, text),
+        None => ask(line, &mut desk.design, &mut desk.work, &mut desk.rows, text),
     }
 }
 
@@ -56,10 +59,10 @@ pub fn put_bad(number: usize, why: Why, text: &mut Text)
 }
 
 // Serves the line of this number: keeps what it holds or lends, or asks a service, and puts the answer, if there is one.
-pub fn serve(line: &[u8], number: usize, held: &mut Held, text: &mut Text)
+pub fn serve(line: &[u8], number: usize, desk: &mut Desk, text: &mut Text)
     ensures { text.new.room ≡ text.old.room }
 {
-    match answered(line, held, text) {
+    match answered(line, desk, text) {
         Ok(put) => {
             let _ = put;
         }

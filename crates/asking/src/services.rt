@@ -1,6 +1,6 @@
 // The services as a line asks them: which one, what the line says to it, and its answer as a line of text. The design that a
 // service hands back is then held.
-ghost use Rattle.std.specs.Prelude.{◌≡◌};
+ghost use Rattle.std.specs.Prelude.{◌≡◌, OnErr};
 
 use crate::looking::look;
 use crate::scores::score;
@@ -24,7 +24,8 @@ fn said(reply: Result<(), Refusal>) -> Numbered {
 
 // `read BYTES`: reads a design: read NUMBER POSITION DESIGN
 fn read(line: &[u8], design: &mut Design, text: &mut Text) -> Result<fmt::Result, Why>
-    ensures { text.new.room ≡ text.old.room }
+    ensures design { OnErr result (design.new ≡ design.old) }
+    ensures room { text.new.room ≡ text.old.room }
 {
     let mut bytes = [0u8; MOST_SAID];
     let n = bytes_in(word(line, 1), &mut bytes)?;
@@ -41,7 +42,8 @@ fn edit(
     work: &mut [u8],
     text: &mut Text,
 ) -> Result<fmt::Result, Why>
-    ensures { text.new.room ≡ text.old.room }
+    ensures design { OnErr result (design.new ≡ design.old) }
+    ensures room { text.new.room ≡ text.old.room }
 {
     let handed = cellweaver::edit(*design, edit_in(line)?, work);
     *design = handed.design;
@@ -105,7 +107,8 @@ pub fn answer(
     rows: &mut [u8],
     text: &mut Text,
 ) -> Result<fmt::Result, Why>
-    ensures { text.new.room ≡ text.old.room }
+    ensures design { OnErr result (design.new ≡ design.old) }
+    ensures room { text.new.room ≡ text.old.room }
 {
     match (word(line, 0), count(line)) {
         (b"read", 2) => read(line, design, text),
