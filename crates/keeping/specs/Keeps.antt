@@ -1,11 +1,11 @@
 -- What is held, and what a request leaves of it.
 use Rattle.std.specs.Prelude.{◌≡◌}
-use Rattle.rules.specs.declared.Design.{Design}
 use Rattle.keeping.specs.declared.Held.{Held}
 use Rattle.keeping.specs.declared.Desk.{Desk}
 use Rattle.keeping.specs.declared.requests.Request.{Request}
 use Rattle.keeping.specs.declared.requests.Request.TheVariants as request
 
+-- what is held on a desk
 abbrev pub held_on : Desk → Held
 held_on desk = record { design = desk.design; work = desk.work.count; rows = desk.rows.count }
 

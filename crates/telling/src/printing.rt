@@ -36,7 +36,6 @@ impl<'a> Write for Line<'a> {
 }
 
 // Prints into bytes, and says how many it put and whether the value could be printed.
-#[tactic(auto, using(crate::proofs::Lines::printed))]
 pub fn print<D: fmt::Display + Drop>(bytes: &mut [u8], value: D) -> (usize, fmt::Result)
     ensures there { result.0 ≤ length bytes.new }
     ensures text { OnOk result.1 (IfSome (D.output value) (λ s. take result.0 bytes.new ≡ take (length bytes.old) s)) }
