@@ -27,12 +27,7 @@ fn put_scored(scored: Result<Score, Refusal>, text: &mut Text) -> fmt::Result
     writeln!(text, "score {number} {name} {total} {last}")
 }
 
-pub fn score(
-    line: &[u8],
-    design: Design,
-    rows: &[u8],
-    text: &mut Text,
-) -> Result<fmt::Result, Why>
+pub fn score(line: &[u8], design: Design, rows: &[u8], text: &mut Text) -> Result<fmt::Result, Why>
     ensures { text.new.room ≡ text.old.room }
 {
     let said = score_in(line)?;
