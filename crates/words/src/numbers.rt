@@ -2,18 +2,23 @@
 ghost use Rattle.std.specs.Prelude.{◌≤◌, IfOk};
 
 use crate::why::Why;
-use std::str;
 
 // A number has at most so many digits.
 const MOST_DIGITS: usize = 18;
 
-// A decimal number in a word: digits alone, where `parse` would take a sign too.
+// A decimal number in a word: digits alone, where `parse` would take a sign too, and would want the word as text first.
 pub fn number_in(word: &[u8]) -> Result<usize, Why> {
-    if word.len() > MOST_DIGITS || !word.iter().all(|b| b.is_ascii_digit()) {
+    if word.is_empty() || word.len() > MOST_DIGITS {
         return Err(Why::NoNumber);
     }
-    let digits = str::from_utf8(word).map_err(|_| Why::NoNumber)?;
-    digits.parse().map_err(|_| Why::NoNumber)
+    let mut n = 0;
+    for b in word {
+        if !b.is_ascii_digit() {
+            return Err(Why::NoNumber);
+        }
+        n = 10 * n + usize::from(b - b'0');
+    }
+    Ok(n)
 }
 
 // A number in a word that is at most so much.
