@@ -97,7 +97,9 @@ fn node_stairs(work: &[u8], board: Board, t: usize) -> bool
     true
 }
 
-// All slots of the first nodes are stairs.
+// All slots of the first nodes are stairs. A function of its own for both who ask: inlined into place its loops are compiled to what takes
+// nearly half as long again.
+#[inline(never)]
 pub fn all_stairs(work: &[u8], board: Board, nodes: usize) -> bool
     requires { Lent board nodes work.now }
     ensures { result ≡ stairs_on board nodes (slots_on board work.now) }
