@@ -110,22 +110,22 @@ pub fn answer(
     ensures design { OnErr result (design.new ≡ design.old) }
     ensures room { text.new.room ≡ text.old.room }
 {
-    match (word(line, 0), count(line)) {
-        (b"read", 2) => read(line, design, text),
-        (b"write", 3) => write(line, *design, text),
-        (b"list", 1) => Ok(list(*design, work, text)),
-        (b"plan", 1) => {
+    match word(line, 0) {
+        b"read" if count(line) == 2 => read(line, design, text),
+        b"write" if count(line) == 3 => write(line, *design, text),
+        b"list" if count(line) == 1 => Ok(list(*design, work, text)),
+        b"plan" if count(line) == 1 => {
             let planned = cellweaver::plan(*design, work, rows);
             Ok(put_planned("plan", planned, rows, work, text))
         }
-        (b"place", 1) => {
+        b"place" if count(line) == 1 => {
             let placed = cellweaver::place(*design, work, rows);
             Ok(put_planned("place", placed, rows, work, text))
         }
-        (b"edit", 3 | 6) => edit(line, design, work, text),
-        (b"check", 1) => Ok(check(*design, rows, text)),
-        (b"slot", 4) => look(line, *design, work, text),
-        (b"score", _) => score(line, *design, rows, text),
+        b"edit" if matches!(count(line), 3 | 6) => edit(line, design, work, text),
+        b"check" if count(line) == 1 => Ok(check(*design, rows, text)),
+        b"slot" if count(line) == 4 => look(line, *design, work, text),
+        b"score" => score(line, *design, rows, text),
         _ => Err(why_unknown(line)),
     }
 }

@@ -11,17 +11,18 @@ pub enum Request {
     Row,
 }
 
-// The request that a line makes, if it asks to hold or to lend something. A comment's words are not counted.
+// The request that a line makes, if it asks to hold or to lend something. Its words are counted only where the first one is that of
+// such a request.
 pub fn request_in(line: &[u8]) -> Option<Request> {
     if let [] | [b'#', ..] = line {
         return Some(Request::Nothing);
     }
-    match (word(line, 0), count(line)) {
-        (b"design", 8) => Some(Request::Design),
-        (b"work", 3) => Some(Request::Work),
-        (b"poke", 3) => Some(Request::Poke),
-        (b"rows", 3) => Some(Request::Rows),
-        (b"row", 3) => Some(Request::Row),
+    match word(line, 0) {
+        b"design" if count(line) == 8 => Some(Request::Design),
+        b"work" if count(line) == 3 => Some(Request::Work),
+        b"poke" if count(line) == 3 => Some(Request::Poke),
+        b"rows" if count(line) == 3 => Some(Request::Rows),
+        b"row" if count(line) == 3 => Some(Request::Row),
         _ => None,
     }
 }
